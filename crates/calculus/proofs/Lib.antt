@@ -1,0 +1,17 @@
+pub mod Lists
+pub mod Substitution
+pub mod Steps
+pub mod Rules
+pub mod Scope
+pub mod Derive
+pub mod Least
+pub mod Entailment
+pub mod LogRules
+pub mod Growth
+pub mod Run
+pub mod Trace
+pub mod Peel
+pub mod Placed
+pub mod Image
+pub mod Demand3
+pub mod Cases

@@ -1,0 +1,180 @@
+-- The commands due at the redex and the rewritten run, by the paper's rules. Assumes nothing.
+use mathlib.Core.Bool.{Bool, true, false, cond}
+use mathlib.Core.Path.{_≡_, refl, sym, ap, _∙_}
+use Prim.Native.Nat.{ℕ, zero, suc}
+use lib.Dec.{T, leb}
+use Rattle.calculus.specs.Term.{Term, Codebase, ClosedCode, ClosedTerm, Scoped, Defined, isValue, size}
+use Rattle.calculus.specs.Term.Term.{var, fun, con, lam, app, callEvent, emit}
+use Rattle.calculus.specs.Step.{Event, Next, step}
+use Rattle.calculus.specs.Step.Next.{atValue, atStuck, next}
+use Rattle.calculus.specs.Rules.{Context, plug}
+use Rattle.calculus.specs.Rules.Context.{[], applied, argument}
+use Rattle.calculus.specs.Guideline.{Guideline, Safe}
+use Rattle.calculus.specs.Entailment.{entails?}
+use Rattle.calculus.specs.Run.{Outcome, Tick, Result, result, run, ended, onward, limit}
+use Rattle.calculus.specs.Run.Tick.{halt, stop, go}
+use Rattle.calculus.specs.Log.{Conf, State, at, triple, noteCall, addEntry, emitCall, tick, settle, functionSettled, isFull, logMove, logNext, logTick, logged, fresh}
+use Rattle.calculus.specs.LogRules.{Runs, Runs∗}
+use Rattle.calculus.specs.LogRules.Runs.{Λcall, Precondition, Log, NoLog, context}
+use Rattle.calculus.specs.LogRules.Runs∗.{none, more}
+use Rattle.calculus.proofs.Lists.{T-true, true-T, false-T}
+use Rattle.calculus.proofs.Entailment.{entails-decides}
+use Rattle.calculus.proofs.Rules.{step-reduces}
+use Rattle.calculus.proofs.Scope.{step-closed}
+
+-- ---- any number of steps
+
+module _ (G : Guideline) (C : Codebase) where
+  then-runs : {κ κ′ κ″ : Conf} → Runs∗ G C κ κ′ → Runs∗ G C κ′ κ″ → Runs∗ G C κ κ″
+  then-runs r (none e) = rw e r
+  then-runs r (more s one) = more (then-runs r s) one
+
+  -- Steps in the function part, and in the argument part of a value.
+  left-runs : (b : Term) {κ κ′ : Conf} → Runs∗ G C κ κ′ → Runs∗ G C (at (app (κ .expr) b) (κ .state)) (at (app (κ′ .expr) b) (κ′ .state))
+  unfolding plug
+  left-runs b (none e) = none (ap (λ (κ : Conf). at (app (κ .expr) b) (κ .state)) e)
+  left-runs b (more r one) = more (left-runs b r) (context (applied [] b) one refl refl)
+
+  right-runs : (v : Term) → T (isValue v) → {κ κ′ : Conf} → Runs∗ G C κ κ′ → Runs∗ G C (at (app v (κ .expr)) (κ .state)) (at (app v (κ′ .expr)) (κ′ .state))
+  unfolding plug
+  right-runs v p (none e) = none (ap (λ (κ : Conf). at (app v (κ .expr)) (κ .state)) e)
+  right-runs v p (more r one) = more (right-runs v p r) (context (argument v p []) one refl refl)
+
+-- ---- the commands due
+
+module _ (G : Guideline) (safe : Safe G) (C : Codebase) where
+  emit-runs : (f : ℕ) (a r : Term) (s : State) → Runs G C (at (emit f a r) s) (at r (emitCall G f a s))
+  unfolding emitCall
+  emit-runs f a r s = on (entails? G (s .history) (triple f a s)) refl
+    where
+      on : (b : Bool) → entails? G (s .history) (triple f a s) ≡ b → Runs G C (at (emit f a r) s) (at r (cond b (addEntry (triple f a s) s) s))
+      on true e = Log (entails-decides G safe (s .history) (triple f a s) .0 (true-T (entails? G (s .history) (triple f a s)) e))
+      on false e = NoLog (λ h. false-T (entails? G (s .history) (triple f a s)) e (entails-decides G safe (s .history) (triple f a s) .1 h))
+
+  -- Doing the commands due is going by the rules Precondition, Log and NoLog …
+  pub settle-runs : (e : Term) (s : State) → Runs∗ G C (at e s) (settle G e s)
+  unfolding settle
+  settle-runs (var i) s = none refl
+  settle-runs (fun f) s = none refl
+  settle-runs (con n) s = none refl
+  settle-runs (lam l b) s = none refl
+  settle-runs (app a b) s = on (settle G a s) (settle-runs a s) (λ s′. settle-runs b s′)
+    where
+      on : (κ : Conf) → Runs∗ G C (at a s) κ → ((s′ : State) → Runs∗ G C (at b s′) (settle G b s′)) → Runs∗ G C (at (app a b) s) (functionSettled b (λ s′. settle G b s′) (isValue (κ .expr)) κ)
+      on κ r below = onValue (isValue (κ .expr)) refl
+        where
+          onValue : (x : Bool) → isValue (κ .expr) ≡ x → Runs∗ G C (at (app a b) s) (functionSettled b (λ s′. settle G b s′) x κ)
+          onValue false e = left-runs G C b r
+          onValue true e = then-runs G C (left-runs G C b r) (right-runs G C (κ .expr) (true-T (isValue (κ .expr)) e) (below (κ .state)))
+  settle-runs (callEvent f a r) s = then-runs G C (more (none refl) Precondition) (settle-runs r (noteCall f a s))
+  settle-runs (emit f a r) s = then-runs G C (more (none refl) (emit-runs f a r s)) (settle-runs r (emitCall G f a s))
+
+-- No command is due in the term.
+abbrev Settled : Term → Type 0
+Settled (var i) = Unit {0}
+Settled (fun f) = Unit {0}
+Settled (con n) = Unit {0}
+Settled (lam l b) = Unit {0}
+Settled (app a b) = Settled a × (T (isValue a) → Settled b)
+Settled (callEvent f a r) = ⊥
+Settled (emit f a r) = ⊥
+
+settle-settled : (G : Guideline) (e : Term) (s : State) → Settled (settle G e s .expr)
+unfolding settle
+settle-settled G (var i) s = tt
+settle-settled G (fun f) s = tt
+settle-settled G (con n) s = tt
+settle-settled G (lam l b) s = tt
+settle-settled G (app a b) s = on (settle G a s) (settle-settled G a s) (λ s′. settle-settled G b s′)
+  where
+    on : (κ : Conf) → Settled (κ .expr) → ((s′ : State) → Settled (settle G b s′ .expr)) → Settled (functionSettled b (λ s′. settle G b s′) (isValue (κ .expr)) κ .expr)
+    on κ h below = onValue (isValue (κ .expr)) refl
+      where
+        onValue : (x : Bool) → isValue (κ .expr) ≡ x → Settled (functionSettled b (λ s′. settle G b s′) x κ .expr)
+        onValue false e = (h, λ t. absurd (false-T (isValue (κ .expr)) e t))
+        onValue true e = (h, λ t. below (κ .state))
+settle-settled G (callEvent f a r) s = settle-settled G r (noteCall f a s)
+settle-settled G (emit f a r) s = settle-settled G r (emitCall G f a s)
+
+inner-settled : (E : Context) (e : Term) → Settled (plug E e) → Settled e
+unfolding plug
+inner-settled [] e h = h
+inner-settled (applied E b) e h = inner-settled E e (h .0)
+inner-settled (argument v p E) e h = inner-settled E e (h .1 p)
+
+-- … until none is due.
+pub settled : (G : Guideline) (e : Term) (s : State) (E : Context) (f : ℕ) (a r : Term) → (settle G e s .expr ≡ plug E (callEvent f a r) → ⊥) × (settle G e s .expr ≡ plug E (emit f a r) → ⊥)
+settled G e s E f a r = (
+  λ q. inner-settled E (callEvent f a r) (rw q at (settle-settled G e s)),
+  λ q. inner-settled E (emit f a r) (rw q at (settle-settled G e s)),
+)
+
+-- ---- the rewritten run
+
+module _ (C : Codebase) where
+  app-closed : {a b : Term} → ClosedTerm C a → ClosedTerm C b → ClosedTerm C (app a b)
+  app-closed p q = record { scoped = (p .scoped, q .scoped); defined = (p .defined, q .defined) }
+
+-- Doing commands keeps an expression closed.
+settle-closed : (G : Guideline) (C : Codebase) (e : Term) (s : State) → ClosedTerm C e → ClosedTerm C (settle G e s .expr)
+unfolding settle
+settle-closed G C (var i) s h = h
+settle-closed G C (fun f) s h = h
+settle-closed G C (con n) s h = h
+settle-closed G C (lam l b) s h = h
+settle-closed G C (app a b) s h =
+    on (settle G a s) (settle-closed G C a s record { scoped = h .scoped .0; defined = h .defined .0 })
+    (λ s′. settle-closed G C b s′ record { scoped = h .scoped .1; defined = h .defined .1 })
+  where
+    on : (κ : Conf) → ClosedTerm C (κ .expr) → ((s′ : State) → ClosedTerm C (settle G b s′ .expr)) → ClosedTerm C (functionSettled b (λ s′. settle G b s′) (isValue (κ .expr)) κ .expr)
+    on κ k below = onValue (isValue (κ .expr))
+      where
+        onValue : (x : Bool) → ClosedTerm C (functionSettled b (λ s′. settle G b s′) x κ .expr)
+        onValue false = app-closed C k record { scoped = h .scoped .1; defined = h .defined .1 }
+        onValue true = app-closed C k (below (κ .state))
+settle-closed G C (callEvent f a r) s h = settle-closed G C r (noteCall f a s) record { scoped = h .scoped .1; defined = h .defined .1 }
+settle-closed G C (emit f a r) s h = settle-closed G C r (emitCall G f a s) record { scoped = h .scoped .1; defined = h .defined .1 }
+
+module _ (G : Guideline) (safe : Safe G) (C : Codebase) (closed : ClosedCode C) where
+  -- What a tick leads to is reached by the rules, and closed.
+  abbrev Reached : Conf → Tick Conf → Type 0
+  Reached κ (halt o) = Unit {0}
+  Reached κ (stop o) = Unit {0}
+  Reached κ (go κ′) = Runs∗ G C κ κ′ × ClosedTerm C (κ′ .expr)
+
+  tick-reached : (κ : Conf) → ClosedTerm C (κ .expr) → Reached κ (logTick G C κ)
+  unfolding logTick
+  tick-reached κ h = on (step C (κ .expr)) refl
+    where
+      moved : (ev : Event) (e : Term) → step C (κ .expr) ≡ next ev e → (x y : Bool) → Reached κ (cond x (cond y (stop Outcome.full) (go (settle G e (tick (κ .state))))) (stop Outcome.large))
+      moved ev e q true true = tt
+      moved ev e q true false = (
+        then-runs G C (more (none refl) (Λcall (step-reduces C closed (κ .expr) e ev (κ .state .time) (suc (κ .state .time)) h .1 (q, refl)) refl refl)) (settle-runs G safe C e (tick (κ .state))),
+        settle-closed G C e (tick (κ .state)) (step-closed C closed (κ .expr) e ev h q),
+      )
+      moved ev e q false y = tt
+
+      on : (x : Next) → step C (κ .expr) ≡ x → Reached κ (logNext G C κ x)
+      on atValue q = tt
+      on atStuck q = tt
+      on (next ev e) q = moved ev e q (leb (size e) limit) (isFull C (κ .state) ev)
+
+  on-reached : (n : ℕ) (κ : Conf) → ClosedTerm C (κ .expr) → Runs∗ G C κ (run (logTick G C) n κ .last)
+  unfolding run
+  on-reached zero κ h = on (logTick G C κ)
+    where
+      on : (x : Tick Conf) → Runs∗ G C κ (ended κ x .last)
+      on (halt o) = none refl
+      on (stop o) = none refl
+      on (go κ′) = none refl
+  on-reached (suc n) κ h = on (logTick G C κ) (tick-reached κ h) (λ κ′ k. on-reached n κ′ k)
+    where
+      on : (x : Tick Conf) → Reached κ x → ((κ′ : Conf) → ClosedTerm C (κ′ .expr) → Runs∗ G C κ′ (run (logTick G C) n κ′ .last)) → Runs∗ G C κ (onward κ (λ κ′. run (logTick G C) n κ′) x .last)
+      on (halt o) r below = none refl
+      on (stop o) r below = none refl
+      on (go κ′) r below = then-runs G C (r .0) (below κ′ (r .1))
+
+  -- A rewritten run goes by the rules from its first configuration to its last.
+  pub run-runs : (e : Term) → ClosedTerm C e → (n : ℕ) → Runs∗ G C (at e fresh) (logged G C n e .last)
+  unfolding logged
+  run-runs e h n = then-runs G C (settle-runs G safe C e fresh) (on-reached n (settle G e fresh) (settle-closed G C e fresh h))

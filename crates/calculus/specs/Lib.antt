@@ -1,0 +1,15 @@
+pub mod Lists
+pub mod Term
+pub mod Substitution
+pub mod Step
+pub mod Rules
+pub mod Guideline
+pub mod Least
+pub mod Derive
+pub mod Entailment
+pub mod Rewriting
+pub mod Run
+pub mod Log
+pub mod LogRules
+pub mod Claim
+pub mod Cases

@@ -1,0 +1,4 @@
+pub mod Bytes
+pub mod Put
+pub mod Filled
+pub mod Same
