@@ -1,0 +1,59 @@
+-- Refusals: a number and the first faulty record, tested in order (document 01, "Numbers by who can cause them"). Assumes nothing.
+use mathlib.Core.Bool.{Bool, true, false, cond}
+use mathlib.Core.Option.{Option, none, some}
+use mathlib.Core.Path.{_≡_, refl, ap}
+use native.Mathlib.Omega.{arith}
+use Prim.Native.Nat.{ℕ, _<_, _≤_}
+use lib.Dec.{ltb}
+use borrow.Author.Tests.{lt-ltb, le-ltb}
+use Rattle.refusal.specs.declared.Verdict.{Verdict}
+
+abbrev pub verdict : ℕ → ℕ → Verdict
+verdict n p = record { number = n; place = p }
+
+-- "Where nothing is refused, number and place are 0".
+abbrev pub accepted : Verdict
+accepted = verdict 0 0
+
+-- A number that is due refuses at its place; else what comes after it in the order of tests decides.
+unfoldable pub refuseIf : ℕ → Option ℕ → Verdict → Verdict
+refuseIf n none v = v
+refuseIf n (some p) v = verdict n p
+
+-- A refusal at place 0, where a test says so.
+abbrev pub dueIf : Bool → Option ℕ
+dueIf b = cond b (some 0) none
+
+-- The first faulty record m, where it is below the record n at which the search ends.
+unfoldable pub dueBelow : ℕ → ℕ → Option ℕ
+dueBelow m n = cond (ltb m n) (some m) none
+
+-- The first of two searches that is due.
+abbrev pub orElse : Option ℕ → Option ℕ → Option ℕ
+orElse none q = q
+orElse (some p) q = some p
+
+-- ---- laws
+
+pub due-at : (m n : ℕ) → m < n → dueBelow m n ≡ some m
+unfolding dueBelow
+due-at m n h = rw (lt-ltb m n h)
+
+pub due-not : (m n : ℕ) → n ≤ m → dueBelow m n ≡ none
+unfolding dueBelow
+due-not m n h = rw (le-ltb m n h)
+
+-- A number is due: it is the verdict. It is not: the rest is.
+pub refuse-due : (k : ℕ) {d : Option ℕ} {p : ℕ} (v : Verdict) → d ≡ some p → refuseIf k d v ≡ verdict k p
+unfolding refuseIf
+refuse-due k v e = rw e
+
+pub refuse-not : (k : ℕ) {d : Option ℕ} (v : Verdict) → d ≡ none → refuseIf k d v ≡ v
+unfolding refuseIf
+refuse-not k v e = rw e
+
+-- Nothing is refused exactly where no number is due.
+pub accepted-parts : (k : ℕ) → 0 < k → (d : Option ℕ) (v : Verdict) → refuseIf k d v ≡ accepted → (d ≡ none) × (v ≡ accepted)
+unfolding refuseIf
+accepted-parts k h none v e = (refl, e)
+accepted-parts k h (some p) v e = absurd (let z : k ≡ 0 = ap (λ (w : Verdict). w .number) e in omega arith)

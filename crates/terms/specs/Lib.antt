@@ -1,0 +1,4 @@
+pub mod Record
+pub mod Read
+pub mod Encode
+pub mod Walk
