@@ -26,7 +26,7 @@ use Rattle.calculus.proofs.Lists.{T-true, true-T, and-both, keep-into, 
 use Rattle.calculus.proofs.Entailment.{entails-decides, entails-map}
 use Rattle.calculus.proofs.Run.{run-halt, run-stop, run-out, run-spent, run-go, run-zero}
 use Rattle.calculus.proofs.Trace.{calls-time, calls-cut}
-use Rattle.calculus.proofs.Peel.{step-bare, step-known, settle-bare, book, Similar, peel}
+use Rattle.calculus.proofs.Peel.{step-bare, step-known, settle-bare, book, Similar, rewritten-peel}
 use Rattle.calculus.proofs.Image.{image, Below, below-more, rising-more, rising-keep, keep-with, keep-without, logged-noted, book-event}
 
 -- ---- full
@@ -175,14 +175,14 @@ module _ (G : Guideline) (safe : Safe G) (C : Codebase) (code : BareCode C) wher
   -- A step of the rewritten run from an image is the plain run's step, or full.
   pub sync : (κ : Conf) → Ok G κ → Sync G κ (plainTick C κ) (L.logTick G C′ (image G κ))
   unfolding plainTick L.logTick
-  sync κ ok = on (step C (κ .expr)) (step C′ (κ .expr)) refl (peel G C code (κ .expr) (ok .bare))
+  sync κ ok = on (step C (κ .expr)) (step C′ (κ .expr)) refl (rewritten-peel G C code (κ .expr) (ok .bare))
     where
       move : (ev : Event) (e e′ : Term) → step C (κ .expr) ≡ next ev e → size e′ ≡ size e → ((s : L.State) → L.settle G e′ s ≡ L.at e (book G ev s)) → (x y : Bool) → leb (size e) limit ≡ x → L.isFull C′ (image G κ .state) ev ≡ y → Sync G κ (plainMove κ ev e) (L.logMove G C′ (image G κ) ev e′)
       move ev e e′ q l s false y k k′ = rw (l, k) (refl, large-not-full)
       move ev e e′ q l s true true k k′ = rw (l, k, k′) (inr (refl, full-means κ ev e ok q k′))
       move ev e e′ q l s true false k k′ = rw (l, k, k′) (inl (ap {B = Tick L.Conf} go (s (L.tick (image G κ .state)) ∙ image-after κ ev e ok), ok-after κ ev e ok q k′, refl))
 
-      on : (x x′ : Next) → step C (κ .expr) ≡ x → Similar G x x′ → Sync G κ (plainNext κ x) (L.logNext G C′ (image G κ) x′)
+      on : (x x′ : Next) → step C (κ .expr) ≡ x → Similar G (book G) x x′ → Sync G κ (plainNext κ x) (L.logNext G C′ (image G κ) x′)
       on atValue x′ q h = rw h (refl, value-not-full)
       on atStuck x′ q h = rw h (refl, stuck-not-full)
       on (next ev e) x′ q (e′, h, l, s) = rw h (move ev e e′ q l s (leb (size e) limit) (L.isFull C′ (image G κ .state) ev) refl refl)

@@ -11,6 +11,7 @@ pub mod Growth
 pub mod Run
 pub mod Trace
 pub mod Peel
+pub mod Strip
 pub mod Placed
 pub mod Image
 pub mod Demand3

@@ -6,19 +6,19 @@ use mathlib.Core.Path.{_≡_, refl, sym}
 use native.Mathlib.Omega.{arith}
 use Prim.Native.Nat.{ℕ, zero, suc}
 use lib.Dec.{leb}
-use Rattle.calculus.specs.Term.{Term, Codebase, isValue, size, Bare, BareCode, Placed, PlacedCode}
-use Rattle.calculus.specs.Term.Term.{var, fun, con, lam, app, callEvent, emit}
+use Rattle.calculus.specs.Term.{Term, Codebase, size, Bare, BareCode, Placed, PlacedCode}
+use Rattle.calculus.specs.Term.Term.{var, callEvent, emit}
 use Rattle.calculus.specs.Term.Placed.{plain, noting, logging}
-use Rattle.calculus.specs.Substitution.{put}
-use Rattle.calculus.specs.Step.{Event, Next, step, redex, inside, callOf}
+use Rattle.calculus.specs.Step.{Next, step}
 use Rattle.calculus.specs.Step.Next.{atValue, atStuck, next}
 use Rattle.calculus.specs.Guideline.{Guideline}
 use Rattle.calculus.specs.Rewriting.{logged, noted, instrument, instrumented, rewrittenCode}
 use Rattle.calculus.specs.Run.{Outcome, Tick, run, ended, onward, limit}
 use Rattle.calculus.specs.Run.Tick.{halt, stop, go}
 use Rattle.calculus.specs.Log as L
-use Rattle.calculus.specs.Log.{Conf, State, at, tick, settle, functionSettled, isFull, logNext, logTick}
-use Rattle.calculus.proofs.Peel.{put-bare, settle-bare}
+use Rattle.calculus.specs.Log.{Conf, State, at, tick, settle, isFull, logNext, logTick}
+use Rattle.calculus.proofs.Peel.{step-bare, settle-bare, Similar}
+use Rattle.calculus.proofs.Strip.{stripCode, stripped-bare, bookCode, stripped-peel}
 
 -- The expression has no command left once those due are done.
 abbrev Clears : Guideline → Next → Type 0
@@ -26,65 +26,14 @@ Clears G atValue = Unit {0}
 Clears G atStuck = Unit {0}
 Clears G (next ev e) = (s : State) → Bare (settle G e s .expr)
 
--- A term without commands is cleared.
-bare-clears : (G : Guideline) (e : Term) → Bare e → (s : State) → Bare (settle G e s .expr)
-bare-clears G e p s = rw (settle-bare G e s p) p
-
-inside-clears : (G : Guideline) (E : Term → Term) → ((e : Term) → ((s : State) → Bare (settle G e s .expr)) → (s : State) → Bare (settle G (E e) s .expr)) → (x : Next) → Clears G x → Clears G (inside E x)
-inside-clears G E h atValue p = tt
-inside-clears G E h atStuck p = tt
-inside-clears G E h (next ev e) p = h e p
-
--- A body with the argument put in.
-body-clears : (G : Guideline) (f : ℕ) (b v : Term) → Placed f b → Bare v → (s : State) → Bare (settle G (put 0 v b) s .expr)
-unfolding put settle
-body-clears G f b v (plain p) q s = bare-clears G (put 0 v b) (put-bare 0 v b q p) s
-body-clears G f b v (noting r p e) q s = rw e (bare-clears G (put 0 v r) (put-bare 0 v r q p) _)
-body-clears G f b v (logging r p e) q s = rw e (bare-clears G (put 0 v r) (put-bare 0 v r q p) _)
-
-redex-clears : (G : Guideline) (C : Codebase) → PlacedCode C → (a v : Term) → Bare a → Bare v → Clears G (redex C a v)
-redex-clears G C placed (var i) v p q = tt
-redex-clears G C placed (fun f) v p q = on (C f) refl
-  where
-    on : (o : Option Term) → C f ≡ o → Clears G (callOf f v o)
-    on none e = tt
-    on (some b) e = body-clears G f b v (placed f b e) q
-redex-clears G C placed (con n) v p q = tt
-redex-clears G C placed (lam l b) v p q = bare-clears G (put 0 v b) (put-bare 0 v b q p)
-redex-clears G C placed (app a b) v p q = tt
-redex-clears G C placed (callEvent f a r) v p q = tt
-redex-clears G C placed (emit f a r) v p q = tt
-
--- The function part, or the argument of a value, is cleared, and so is the application.
-applied-clears : (G : Guideline) (b : Term) → Bare b → (e : Term) → ((s : State) → Bare (settle G e s .expr)) → (s : State) → Bare (settle G (app e b) s .expr)
-unfolding settle
-applied-clears G b p e h s = on (settle G e s) (h s)
-  where
-    on : (κ : Conf) → Bare (κ .expr) → Bare (functionSettled b (λ s′. settle G b s′) (isValue (κ .expr)) κ .expr)
-    on κ q = onValue (isValue (κ .expr))
-      where
-        onValue : (x : Bool) → Bare (functionSettled b (λ s′. settle G b s′) x κ .expr)
-        onValue false = (q, p)
-        onValue true = (q, bare-clears G b p (κ .state))
-
-argument-clears : (G : Guideline) (a : Term) → Bare a → isValue a ≡ true → (e : Term) → ((s : State) → Bare (settle G e s .expr)) → (s : State) → Bare (settle G (app a e) s .expr)
-unfolding settle
-argument-clears G a p v e h s = rw (settle-bare G a s p, v) (p, h s)
-
+-- A step's commands done, none is left.
 step-clears : (G : Guideline) (C : Codebase) → PlacedCode C → (e : Term) → Bare e → Clears G (step C e)
-unfolding step
-step-clears G C placed (var i) p = tt
-step-clears G C placed (fun f) p = tt
-step-clears G C placed (con n) p = tt
-step-clears G C placed (lam l b) p = tt
-step-clears G C placed (app a b) p = on (isValue a) (isValue b) refl (step-clears G C placed a (p .0)) (step-clears G C placed b (p .1))
+step-clears G C placed e p = on (step (stripCode C) e) (step C e) refl (stripped-peel G C placed e p)
   where
-    on : (x y : Bool) → isValue a ≡ x → Clears G (step C a) → Clears G (step C b) → Clears G (elim x as (λ _. Next) [ false ↦ inside (λ z. app z b) (step C a) | true ↦ elim y as (λ _. Next) [ false ↦ inside (λ z. app a z) (step C b) | true ↦ redex C a b ] ])
-    on false y q h h′ = inside-clears G (λ z. app z b) (applied-clears G b (p .1)) (step C a) h
-    on true false q h h′ = inside-clears G (λ z. app a z) (argument-clears G a (p .0) q) (step C b) h′
-    on true true q h h′ = redex-clears G C placed a b (p .0) (p .1)
-step-clears G C placed (callEvent f a r) p = absurd p
-step-clears G C placed (emit f a r) p = absurd p
+    on : (x x′ : Next) → step (stripCode C) e ≡ x → Similar G (bookCode G C) x x′ → Clears G x′
+    on atValue x′ q h = rw h tt
+    on atStuck x′ q h = rw h tt
+    on (next ev r) x′ q (r′, h, l, k) = rw h (λ s. rw (k s) (step-bare (stripCode C) (stripped-bare C placed) e r ev p q))
 
 module _ (G : Guideline) (C : Codebase) (placed : PlacedCode C) where
   abbrev BareTick : Tick Conf → Type 0
@@ -124,7 +73,7 @@ module _ (G : Guideline) (C : Codebase) (placed : PlacedCode C) where
   -- "a finished run has none pending": no command is left in a run's expression.
   pub none-left : (e : Term) → Bare e → (n : ℕ) → Bare (L.logged G C n e .last .expr)
   unfolding L.logged
-  none-left e p n = run-bare n (settle G e L.fresh) (bare-clears G e p L.fresh)
+  none-left e p n = rw (settle-bare G e L.fresh p) (run-bare n (at e L.fresh) p)
 
 -- Rewriting puts commands only where they are allowed.
 instrument-placed : (G : Guideline) (f : ℕ) (b : Term) → Bare b → Placed f (instrument G f b)
