@@ -1,0 +1,15 @@
+pub mod Each
+pub mod Due
+pub mod Laid
+pub mod Program
+pub mod Ranges
+pub mod Names
+pub mod Bare
+pub mod Placed
+pub mod Sizes
+pub mod Accepted
+pub mod Tests
+pub mod Search
+pub mod Parts
+pub mod Walk
+pub mod Chain

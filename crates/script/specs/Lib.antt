@@ -1,0 +1,4 @@
+pub mod File
+pub mod Check
+pub mod WellFormed
+pub mod Layout
