@@ -7,7 +7,6 @@ use Prim.Native.Nat.{ℕ, _+_, _<_, _≤_}
 use native.Mathlib.Decide.{decLt}
 use native.Mathlib.Omega.{arith}
 use lib.Dec.{eqb, ltb}
-use lib.ListN.{length}
 use Rattle.calculus.specs.Term.{Term, records}
 use Rattle.terms.specs.Record.{count, recordNumber}
 use Rattle.terms.specs.Read.{Read, readAt}
@@ -22,8 +21,8 @@ use Rattle.terms.proofs.Pass.{pass-read, pass-within}
 use Rattle.refusal.specs.Refusal.{dueBelow, orElse, due-at, due-not}
 use Rattle.script.specs.File.{Definition, File, addDefinition, isDefinition, fileOf, fileFrom}
 use Rattle.script.specs.File.File.{whole, broken}
-use Rattle.script.specs.Check.{brokenAt, misnumbered, looseAt, looseBody, definitionCount, misnumberedIn, looseIn, due3, due4, due5}
-use Rattle.script.specs.Layout.{noFaults, numberedAt, afterDefinition, afterMain, Told, countAfter, misnumberedAfter, looseAfter, Reached}
+use Rattle.script.specs.Check.{brokenAt, misnumbered, looseAt, looseBody, definitionCount, misnumberedIn, looseIn, due3}
+use Rattle.script.specs.Layout.{noFaults, afterDefinition, afterMain, Told, countAfter, misnumberedAfter, looseAfter, Reached}
 use Rattle.script.specs.declared.Faults.{Faults}
 use Rattle.script.proofs.Parts.{definition-here, file-definition, file-no-body, file-main, file-more, file-no-main}
 
@@ -184,8 +183,9 @@ module _ {s : List ℕ} {i : ℕ} {f : Faults} (h : Reached s i f) where
         or-none none = refl
         or-none (some x) = refl
 
--- ---- the definitions alone, passed over
+-- ---- the definitions alone
 
+-- Up to record i, k definitions were passed over.
 pub record Passing (s : List ℕ) (i k : ℕ) : Type 0 where
   pub within : i ≤ count s
   pub few : k ≤ i
@@ -200,6 +200,7 @@ passed-none (stuck j) e = (j, refl)
 
 module _ {s : List ℕ} {i k : ℕ} (h : Passing s i k) where
   module _ (d : isDefinition s i ≡ true) where
+    -- A definition is passed over.
     pub passing-more : (j : ℕ) → passTerm s (i + 1) ≡ Next j → Passing s j (k + 1)
     passing-more j w =
         let r = pass-read s (i + 1) j w in
@@ -211,15 +212,19 @@ module _ {s : List ℕ} {i k : ℕ} (h : Passing s i k) where
           counted = h .counted ∙ ap (countAfter k) (file-definition s i d (r .0) j (r .1)) ∙ count-more k x (fileFrom s j);
         }
 
+    -- A definition without a body: the file is not whole.
     pub passing-stopped : passTerm s (i + 1) ≡ Nothing → 0 ≡ definitionCount (fileOf s)
     passing-stopped w = let r = passed-none (readAt s (i + 1)) w in sym (h .counted ∙ ap (countAfter k) (file-no-body s i d (r .0) (r .1)))
 
   module _ (d : isDefinition s i ≡ false) where
+    -- No main term: it is not whole.
     pub passed-stopped : passTerm s i ≡ Nothing → 0 ≡ definitionCount (fileOf s)
     passed-stopped w = let r = passed-none (readAt s i) w in sym (h .counted ∙ ap (countAfter k) (file-no-main s i d (r .0) (r .1)))
 
+    -- A record after the main term: it is not whole.
     pub passed-early : (j : ℕ) → passTerm s i ≡ Next j → (j ≡ count s → ⊥) → 0 ≡ definitionCount (fileOf s)
     passed-early j w n = let r = pass-read s i j w in sym (h .counted ∙ ap (countAfter k) (file-more s i d (r .0) j (r .1) n))
 
+    -- The main term ends the file.
     pub passed-whole : (j : ℕ) → passTerm s i ≡ Next j → j ≡ count s → k ≡ definitionCount (fileOf s)
     passed-whole j w e = let r = pass-read s i j w in sym (h .counted ∙ ap (countAfter k) (file-main s i d (r .0) j (r .1) e) ∙ omega arith)

@@ -1,4 +1,5 @@
--- What one walk over the file finds for numbers 3 to 6, and how it goes on from one definition to the next. Assumes nothing.
+-- What the parts of the check say of a file: one walk for numbers 3 to 6, and how it goes on from one definition to the next. Only contracts
+-- of private functions cite this. Assumes nothing.
 use mathlib.Core.Bool.{Bool, cond, _&&_}
 use mathlib.Core.List.{List}
 use mathlib.Core.Option.{Option, none, some}
@@ -8,14 +9,16 @@ use lib.Dec.{eqb, ltb}
 use lib.ListN.{length}
 use Rattle.terms.specs.Record.{count}
 use Rattle.terms.specs.Walk.{firstOf}
-use Rattle.refusal.specs.Refusal.{dueBelow, orElse}
+use Rattle.refusal.specs.Refusal.{accepted, refuseIf, dueBelow, orElse}
+use Rattle.refusal.specs.declared.Verdict.{Verdict}
 use Rattle.script.specs.File.{File, fileOf, fileFrom}
 use Rattle.script.specs.File.File.{whole, broken}
-use Rattle.script.specs.Check.{brokenAt, malformed, misnumbered, looseBody, looseAt, definitionCount, undefinedName, isCommand, misplaced, due3, due4, due5}
-use Rattle.script.specs.declared.Faults.{Faults}
-use Rattle.script.specs.declared.Layout.{Layout}
+use Rattle.script.specs.Check.{brokenAt, malformed, misnumbered, looseBody, looseAt, definitionCount, undefinedName, isCommand, misplaced, due3, due4, due5, due6, due7}
+use Rattle.script.specs.declared.Purpose.{Purpose}
 use Rattle.script.specs.declared.Test.{Test}
 use Rattle.script.specs.declared.Test.the-variants.{Malformed, Undefined, Command, Misplaced}
+use Rattle.script.specs.declared.Faults.{Faults}
+use Rattle.script.specs.declared.Layout.{Layout}
 use Rattle.script.specs.declared.Layout.the-variants.{Broken, Whole}
 
 -- What a search through the file looks for.
@@ -59,6 +62,10 @@ pub record Told (s : List ℕ) (f : Faults) : Type 0 where
 abbrev pub Tells : List ℕ → Layout → Type 0
 Tells s (Broken j) = due3 s ≡ some j
 Tells s (Whole f) = Told s f
+
+-- What is left to test in a whole file.
+abbrev pub wholeVerdict : Purpose → List ℕ → Verdict
+wholeVerdict u s = refuseIf 4 (due4 s) (refuseIf 5 (due5 s) (refuseIf 6 (due6 s) (refuseIf 7 (due7 u s) accepted)))
 
 -- ---- on the way: what the definitions that were passed add to the rest of the file
 

@@ -11,7 +11,7 @@ ghost use Rattle.terms.specs.Record.{count};
 ghost use Rattle.terms.specs.Walk.{firstOf};
 ghost use Rattle.script.specs.File.{isDefinition, fileOf};
 ghost use Rattle.script.specs.Check.{mostRecords, due1, malformed, definitionCount, undefinedName, isCommand, isParameter, commandOf, placedCall, placedEmit, misplaced, commandsBelow, tooMany, firstIn, due7, scriptVerdict};
-ghost use Rattle.script.specs.Layout.{noFaults, numberedAt, failsOf, afterDefinition, afterMain, Reached, Tells};
+ghost use Rattle.script.specs.Layout.{failsOf, noFaults, numberedAt, afterDefinition, afterMain, Told, Tells, Reached, wholeVerdict};
 
 // What a script is checked for.
 pub enum Purpose {
@@ -414,6 +414,28 @@ fn check_commands(s: &[u8], purpose: Purpose) -> Verdict
 
 // ---- all
 
+// Numbers 4 to 7 of a whole file in which that was found.
+fn check_whole(s: &[u8], purpose: Purpose, found: Faults) -> Verdict
+    requires { ⌜ count (now s) ≤ 65536 ⌝ }
+    requires { ⌜ Told (now s) found ⌝ }
+    ensures { λ r. ⌜ r ≡ wholeVerdict purpose (now (s .entry)) ⌝ }
+{
+    let n = s.len() / 8;
+    let wrong = found.misnumbered as usize;
+    if wrong < n {
+        return refused(4, wrong);
+    }
+    let loose = found.loose as usize;
+    if loose < n {
+        return refused(5, loose);
+    }
+    let undefined = first(s, Test::Undefined(found.definitions));
+    if undefined < n {
+        return refused(6, undefined);
+    }
+    check_commands(s, purpose)
+}
+
 // The first number that is due, and its place.
 pub fn check_script(s: &[u8], purpose: Purpose) -> Verdict
     ensures { λ r. ⌜ r ≡ scriptVerdict purpose (now (s .entry)) ⌝ }
@@ -421,27 +443,12 @@ pub fn check_script(s: &[u8], purpose: Purpose) -> Verdict
     if wrong_length(s, purpose) {
         return refused(1, 0);
     }
-    let n = s.len() / 8;
     let bad = first(s, Test::Malformed);
-    if bad < n {
+    if bad < s.len() / 8 {
         return refused(2, bad);
     }
     match walk_file(s) {
         Layout::Broken(place) => refused(3, place as usize),
-        Layout::Whole(f) => {
-            let wrong = f.misnumbered as usize;
-            if wrong < n {
-                return refused(4, wrong);
-            }
-            let loose = f.loose as usize;
-            if loose < n {
-                return refused(5, loose);
-            }
-            let undefined = first(s, Test::Undefined(f.definitions));
-            if undefined < n {
-                return refused(6, undefined);
-            }
-            check_commands(s, purpose)
-        }
+        Layout::Whole(found) => check_whole(s, purpose, found),
     }
 }

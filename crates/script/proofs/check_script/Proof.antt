@@ -2,7 +2,7 @@
 use native.Mathlib.Omega.{arith}
 use denote.Ref.{now}
 use borrow.Author.Needs.{needs}
-use Rattle.script.proofs.Chain.{records-few, refused-1, refused-2, refused-3, refused-4, refused-5, refused-6, refused-7}
+use Rattle.script.proofs.Chain.{records-few, refused-1, refused-2, refused-3, refused-later, told}
 use Rattle.script.proofs.check_script.Statement.{statement}
 use Rattle.script.proofs.check_script.Tie as tie
 
@@ -13,19 +13,21 @@ refused-requires : tie.Need-refused-requires
 refused-requires c κs = search needs
 
 returns : tie.Need-returns
-returns c = refused-1 (c .before .before .before .before .args .purpose) (now (c .before .before .before .before .args .s)) (c .before .before .wrong-length .ensures) (c .before .if1 .taken) (c .refused .ensures)
+returns c = let a = c .before .before .before .before .args in refused-1 (a .purpose) (now (a .s)) (c .before .before .wrong-length .ensures) (c .before .if1 .taken) (c .refused .ensures)
 
 first-requires : tie.Need-first-requires
 first-requires c κs = search needs
 
 refused-requires-2 : tie.Need-refused-requires-2
-refused-requires-2 c κs = omega (arith, records-few (c .before .before .before .before .before .args .purpose) (now (c .before .before .before .before .before .args .s)) (c .before .before .before .wrong-length .ensures) (c .before .before .if1 .left))
+refused-requires-2 c κs = let a = c .before .before .before .before .before .args in omega (arith, records-few (a .purpose) (now (a .s)) (c .before .before .before .wrong-length .ensures) (c .before .before .if1 .left))
 
 returns-2 : tie.Need-returns-2
-returns-2 c = refused-2 (c .before .before .before .before .before .before .args .purpose) (now (c .before .before .before .before .before .before .args .s)) (c .before .before .before .before .wrong-length .ensures) (c .before .before .before .if1 .left) (c .before .before .first .ensures) (c .before .if2 .taken) (c .refused2 .ensures)
+returns-2 c =
+    let a = c .before .before .before .before .before .before .args in
+    refused-2 (a .purpose) (now (a .s)) (c .before .before .before .before .wrong-length .ensures) (c .before .before .before .if1 .left) (c .before .before .first .ensures) (c .before .if2 .taken) (c .refused2 .ensures)
 
 walk-file-requires : tie.Need-walk-file-requires
-walk-file-requires c κs = omega (arith, records-few (c .before .before .before .before .before .args .purpose) (now (c .before .before .before .before .before .args .s)) (c .before .before .before .wrong-length .ensures) (c .before .before .if1 .left))
+walk-file-requires c κs = let a = c .before .before .before .before .before .args in omega (arith, records-few (a .purpose) (now (a .s)) (c .before .before .before .wrong-length .ensures) (c .before .before .if1 .left))
 
 enum-known-place : tie.Need-enum-known-place
 enum-known-place c = search needs
@@ -36,44 +38,25 @@ cast-refused c = search needs
 refused-requires-3 : tie.Need-refused-requires-3
 refused-requires-3 c κs = search needs
 
-enum-known-f : tie.Need-enum-known-f
-enum-known-f c = search needs
+enum-known-found : tie.Need-enum-known-found
+enum-known-found c = search needs
 
-cast-wrong : tie.Need-cast-wrong
-cast-wrong c = search needs
-
-refused-requires-4 : tie.Need-refused-requires-4
-refused-requires-4 c κs = search needs
+check-whole-requires : tie.Need-check-whole-requires
+check-whole-requires c κs =
+    let a = c .before .before .before .before .before .before .before .before .before .args in
+    (omega (arith, records-few (a .purpose) (now (a .s)) (c .before .before .before .before .before .before .before .wrong-length .ensures) (c .before .before .before .before .before .before .if1 .left)), told (now (a .s)) (c .before .before .before .walk-file .ensures) (c .before .found .given .1))
 
 returns-3 : tie.Need-returns-3
-returns-3 c = refused-4 (c .before .before .before .before .before .before .before .before .before .before .before .before .args .purpose) (now (c .before .before .before .before .before .before .before .before .before .before .before .before .args .s)) (c .before .before .before .before .before .before .before .before .before .before .wrong-length .ensures) (c .before .before .before .before .before .before .before .before .before .if1 .left) (c .before .before .before .before .before .before .before .before .first .ensures) (c .before .before .before .before .before .before .before .if2 .left) (c .before .before .before .before .before .before .walk-file .ensures) (c .before .before .before .before .f .given .1) (c .before .if3 .taken) (c .refused4 .ensures)
-
-cast-loose : tie.Need-cast-loose
-cast-loose c = search needs
-
-refused-requires-5 : tie.Need-refused-requires-5
-refused-requires-5 c κs = search needs
+returns-3 c =
+    let a = c .before .before .before .before .before .before .before .before .before .before .args in
+    let w = c .before .before .before .before .walk-file in
+    refused-3 (a .purpose) (now (a .s)) (c .before .before .before .before .before .before .before .before .wrong-length .ensures) (c .before .before .before .before .before .before .before .if1 .left) (c .before .before .before .before .before .before .first .ensures) (c .before .before .before .before .before .if2 .left) (w .ensures) (c .before .before .place .given .1) (c .refused3 .ensures)
 
 returns-4 : tie.Need-returns-4
-returns-4 c = refused-5 (c .before .before .before .before .before .before .before .before .before .before .before .before .before .before .args .purpose) (now (c .before .before .before .before .before .before .before .before .before .before .before .before .before .before .args .s)) (c .before .before .before .before .before .before .before .before .before .before .before .before .wrong-length .ensures) (c .before .before .before .before .before .before .before .before .before .before .before .if1 .left) (c .before .before .before .before .before .before .before .before .before .before .first .ensures) (c .before .before .before .before .before .before .before .before .before .if2 .left) (c .before .before .before .before .before .before .before .before .walk-file .ensures) (c .before .before .before .before .before .before .f .given .1) (c .before .before .before .if3 .left) (c .before .if4 .taken) (c .refused5 .ensures)
-
-first-requires-2 : tie.Need-first-requires-2
-first-requires-2 c κs = search needs
-
-refused-requires-6 : tie.Need-refused-requires-6
-refused-requires-6 c κs = search needs
-
-returns-5 : tie.Need-returns-5
-returns-5 c = refused-6 (c .before .before .before .before .before .before .before .before .before .before .before .before .before .before .before .before .args .purpose) (now (c .before .before .before .before .before .before .before .before .before .before .before .before .before .before .before .before .args .s)) (c .before .before .before .before .before .before .before .before .before .before .before .before .before .before .wrong-length .ensures) (c .before .before .before .before .before .before .before .before .before .before .before .before .before .if1 .left) (c .before .before .before .before .before .before .before .before .before .before .before .before .first .ensures) (c .before .before .before .before .before .before .before .before .before .before .before .if2 .left) (c .before .before .before .before .before .before .before .before .before .before .walk-file .ensures) (c .before .before .before .before .before .before .before .before .f .given .1) (c .before .before .before .before .before .if3 .left) (c .before .before .before .if4 .left) (c .before .before .first2 .ensures) (c .before .if5 .taken) (c .refused6 .ensures)
-
-check-commands-requires : tie.Need-check-commands-requires
-check-commands-requires c κs = omega (arith, records-few (c .before .before .before .before .before .before .before .before .before .before .before .before .before .before .before .args .purpose) (now (c .before .before .before .before .before .before .before .before .before .before .before .before .before .before .before .args .s)) (c .before .before .before .before .before .before .before .before .before .before .before .before .before .wrong-length .ensures) (c .before .before .before .before .before .before .before .before .before .before .before .before .if1 .left))
-
-returns-6 : tie.Need-returns-6
-returns-6 c = refused-3 (c .before .before .before .before .before .before .before .before .before .before .args .purpose) (now (c .before .before .before .before .before .before .before .before .before .before .args .s)) (c .before .before .before .before .before .before .before .before .wrong-length .ensures) (c .before .before .before .before .before .before .before .if1 .left) (c .before .before .before .before .before .before .first .ensures) (c .before .before .before .before .before .if2 .left) (c .before .before .before .before .walk-file .ensures) (c .before .before .place .given .1) (c .refused3 .ensures)
-
-returns-7 : tie.Need-returns-7
-returns-7 c = refused-7 (c .before .before .before .before .before .before .before .before .before .before .before .before .before .before .before .before .args .purpose) (now (c .before .before .before .before .before .before .before .before .before .before .before .before .before .before .before .before .args .s)) (c .before .before .before .before .before .before .before .before .before .before .before .before .before .before .wrong-length .ensures) (c .before .before .before .before .before .before .before .before .before .before .before .before .before .if1 .left) (c .before .before .before .before .before .before .before .before .before .before .before .before .first .ensures) (c .before .before .before .before .before .before .before .before .before .before .before .if2 .left) (c .before .before .before .before .before .before .before .before .before .before .walk-file .ensures) (c .before .before .before .before .before .before .before .before .f .given .1) (c .before .before .before .before .before .if3 .left) (c .before .before .before .if4 .left) (c .before .before .first2 .ensures) (c .before .if5 .left) (c .check-commands .ensures)
+returns-4 c =
+    let a = c .before .before .before .before .before .before .before .before .before .before .args in
+    let w = c .before .before .before .before .walk-file in
+    refused-later (a .purpose) (now (a .s)) (c .before .before .before .before .before .before .before .before .wrong-length .ensures) (c .before .before .before .before .before .before .before .if1 .left) (c .before .before .before .before .before .before .first .ensures) (c .before .before .before .before .before .if2 .left) (w .ensures) (c .before .before .found .given .1) (c .check-whole .ensures)
 
 pub check-script-spec : {M : Type 1} → statement M
 check-script-spec =
@@ -89,16 +72,7 @@ check-script-spec =
     enum-known-place
     cast-refused
     refused-requires-3
-    enum-known-f
-    cast-wrong
-    refused-requires-4
+    enum-known-found
+    check-whole-requires
     returns-3
-    cast-loose
-    refused-requires-5
-    returns-4
-    first-requires-2
-    refused-requires-6
-    returns-5
-    check-commands-requires
-    returns-6
-    returns-7)
+    returns-4)

@@ -1,12 +1,11 @@
 -- `script::count_commands` meets its contract. The loop's invariant: the commands below record i are counted, and no more than records. The
 -- measure is the records left. Assumes nothing.
 use mathlib.Core.Logic.{⊎-elim}
-use mathlib.Core.Path.{_≡_, ap, _∙_}
-use Prim.Native.Nat.{ℕ, _-_, _≤_}
+use mathlib.Core.Path.{_≡_}
+use Prim.Native.Nat.{_-_, _≤_}
 use native.Mathlib.Omega.{arith}
 use denote.Ref.{now}
 use Rattle.terms.specs.Record.{count}
-use Rattle.script.specs.Check.{commandsBelow}
 use Rattle.script.proofs.Search.{Counted, counted-start, counted-one, counted-other}
 use Rattle.script.proofs.count_commands.Statement.{statement}
 use Rattle.script.proofs.count_commands.Tie as tie
