@@ -34,7 +34,8 @@ module _ (p : ℕ → Bool) (n i : ℕ) where
 
 -- ---- what is found
 
-first-in : (p : ℕ → Bool) (i k : ℕ) → (i ≤ firstFrom p i k) × (firstFrom p i k ≤ i + k)
+-- What is found lies in the range of the search or right after it.
+pub first-in : (p : ℕ → Bool) (i k : ℕ) → (i ≤ firstFrom p i k) × (firstFrom p i k ≤ i + k)
 unfolding firstFrom
 first-in p i zero = (omega arith, omega arith)
 first-in p i (suc k) = on (p i) (first-in p (i + 1) k)

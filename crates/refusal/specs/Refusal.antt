@@ -4,7 +4,7 @@ use mathlib.Core.Option.{Option, none, some}
 use mathlib.Core.Path.{_≡_, refl, ap}
 use native.Mathlib.Omega.{arith}
 use Prim.Native.Nat.{ℕ, _<_, _≤_}
-use lib.Dec.{ltb}
+use lib.Dec.{eqb, ltb}
 use borrow.Author.Tests.{lt-ltb, le-ltb}
 use Rattle.refusal.specs.declared.Verdict.{Verdict}
 
@@ -32,6 +32,10 @@ dueBelow m n = cond (ltb m n) (some m) none
 abbrev pub orElse : Option ℕ → Option ℕ → Option ℕ
 orElse none q = q
 orElse (some p) q = some p
+
+-- The first verdict where it refuses, else the second.
+unfoldable pub andThen : Verdict → Verdict → Verdict
+andThen v w = cond (eqb (v .number) 0) w v
 
 -- ---- laws
 

@@ -58,3 +58,12 @@ readF (suc f) s i = readStep (arityAt s i) s i (readF f s)
 -- What stands at record i: each record read leaves one less, so a fuel of the records left is enough.
 pub readAt : List ℕ → ℕ → Read
 readAt s i = readF (count s - i) s i
+
+-- The term of a reading. Where there is none it is a constant: no contract that cites it admits such bytes.
+abbrev pub termOf : Read → Term
+termOf (got t j) = t
+termOf (stuck j) = con 0
+
+-- The term that stands at record i of a file.
+unfoldable pub termAt : List ℕ → ℕ → Term
+termAt s i = termOf (readAt s i)

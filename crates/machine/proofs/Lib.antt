@@ -1,0 +1,4 @@
+pub mod Strip
+pub mod Program
+pub mod Bodies
+pub mod Contract

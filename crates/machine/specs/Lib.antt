@@ -1,0 +1,4 @@
+pub mod Program
+pub mod Bodies
+pub mod Fire
+pub mod Outcome

@@ -1,0 +1,162 @@
+-- A script and a guideline that are accepted: what is written for them. Assumes nothing.
+use mathlib.Core.List.{List, [], _∷_}
+use mathlib.Core.Option.{Option, none, some}
+use mathlib.Core.Path.{_≡_, refl, sym, ap, _∙_}
+use Prim.Native.Nat.{ℕ, suc, _+_, _*_, _<_, _≤_}
+use native.Mathlib.Nat.{sub-zero}
+use native.Mathlib.Omega.{arith}
+use lib.ListN.{length}
+use Rattle.words.specs.Bytes.{AllBytes}
+use Rattle.calculus.specs.Lists.{each}
+use Rattle.calculus.specs.Term.{Term, Program}
+use Rattle.calculus.specs.Rewriting.{rewriteFrom, rewrite}
+use Rattle.terms.specs.Record.{count}
+use Rattle.terms.specs.Encode.{encodeProgram}
+use Rattle.refusal.specs.Refusal.{accepted, refuseIf}
+use Rattle.refusal.specs.declared.Verdict.{Verdict}
+use Rattle.script.specs.File.{Definition, fileOf, programOf}
+use Rattle.script.specs.Check.{definitionCount, due1, due2, due3, due4, due5, due6, due7, scriptVerdict}
+use Rattle.script.specs.WellFormed.{WellFormed}
+use Rattle.script.specs.declared.Purpose.{Purpose}
+use Rattle.script.specs.declared.Purpose.the-variants.{Rewriting}
+use Rattle.script.proofs.Accepted.{NoneDue, accepted-none, Whole, whole-file, file-bytes, none-formed, program-length}
+use Rattle.script.proofs.Due.{due1-none}
+use Rattle.script.proofs.Laid.{bodiesOf, file-laid}
+use Rattle.script.proofs.Program.{Numbered, misnumbered-none}
+use Rattle.script.proofs.Sizes.{laid-count}
+use Rattle.guideline.specs.Record.{count as recordCount}
+use Rattle.guideline.specs.Read.{guidelineOf}
+use Rattle.guideline.specs.Check.{due11, due12, due13, due14, due15, due16, due17, guidelineDue, guidelineVerdict}
+use Rattle.guideline.proofs.Accepted.{accepted-standing}
+use Rattle.guideline.proofs.Functions.{verdict-file}
+use Rattle.rewriting.specs.Answer.{rewrittenFile, writtenFile}
+use Rattle.rewriting.specs.Marks.{Marks, gains}
+use Rattle.rewriting.specs.Grown.{grown}
+use Rattle.rewriting.proofs.Marking.{mark-is}
+use Rattle.rewriting.proofs.Growing.{Marked, grown-program, definitions-grow}
+
+-- ---- a verdict with number 0 accepts
+
+-- One number of the chain.
+refuse-zero : (k : ℕ) → 0 < k → (d : Option ℕ) (v : Verdict) → (v .number ≡ 0 → v ≡ accepted) → (refuseIf k d v) .number ≡ 0 → refuseIf k d v ≡ accepted
+unfolding refuseIf
+refuse-zero k l none v h e = h e
+refuse-zero k l (some p) v h e = absurd (omega arith)
+
+-- The script's.
+pub script-zero : (u : Purpose) (s : List ℕ) → (scriptVerdict u s) .number ≡ 0 → scriptVerdict u s ≡ accepted
+unfolding scriptVerdict
+script-zero u s =
+    refuse-zero 1 (omega arith) (due1 u s) _
+    (refuse-zero 2 (omega arith) (due2 s) _
+    (refuse-zero 3 (omega arith) (due3 s) _
+    (refuse-zero 4 (omega arith) (due4 s) _
+    (refuse-zero 5 (omega arith) (due5 s) _
+    (refuse-zero 6 (omega arith) (due6 s) _
+    (refuse-zero 7 (omega arith) (due7 u s) accepted (λ _. refl)))))))
+
+-- The guideline's.
+pub guideline-zero : (n : ℕ) (g : List ℕ) → (guidelineVerdict n g) .number ≡ 0 → guidelineVerdict n g ≡ accepted
+unfolding guidelineDue
+guideline-zero n g =
+    refuse-zero 11 (omega arith) (due11 g) _
+    (refuse-zero 12 (omega arith) (due12 g) _
+    (refuse-zero 13 (omega arith) (due13 g) _
+    (refuse-zero 14 (omega arith) (due14 g) _
+    (refuse-zero 15 (omega arith) (due15 g) _
+    (refuse-zero 16 (omega arith) (due16 g) _
+    (refuse-zero 17 (omega arith) (due17 n g) accepted (λ _. refl)))))))
+
+-- The bytes of the script, and that it is accepted.
+pub record ScriptPassed (s : List ℕ) : Type 0 where
+  pub bytes : AllBytes s
+  pub verdict : scriptVerdict Rewriting s ≡ accepted
+
+-- The same of the guideline, for that script.
+pub record Passed (s g : List ℕ) : Type 0 where
+  pub script : ScriptPassed s
+  pub bytes : AllBytes g
+  pub verdict : guidelineVerdict (definitionCount (fileOf s)) g ≡ accepted
+
+-- From the answers of the checks.
+pub script-passed : (s : List ℕ) {v : Verdict} → AllBytes s → v ≡ scriptVerdict Rewriting s → v .number ≡ 0 → ScriptPassed s
+script-passed s b e z = record { bytes = b; verdict = script-zero Rewriting s (rw e at z) }
+
+pub passed : {s : List ℕ} (g : List ℕ) {n : ℕ} {v : Verdict} → ScriptPassed s → AllBytes g → n ≡ definitionCount (fileOf s) → v ≡ guidelineVerdict n g → v .number ≡ 0 → Passed s g
+passed {s} g p b q e z = record { script = p; bytes = b; verdict = guideline-zero (definitionCount (fileOf s)) g (rw (e, q) at z) }
+
+-- ---- the script
+
+-- There are as many bodies as definitions.
+bodies-length : (ds : List Definition) → length (bodiesOf ds) ≡ length ds
+unfolding each
+bodies-length [] = refl
+bodies-length (d ∷ ds) = ap suc (bodies-length ds)
+
+module _ {s : List ℕ} (p : ScriptPassed s) where
+  -- No number is due.
+  nothing : NoneDue Rewriting s
+  nothing = accepted-none Rewriting s (p .verdict)
+
+  -- It is whole.
+  file : Whole (fileOf s)
+  file = whole-file s (nothing .three)
+
+  -- Its records fill its bytes, and there are at most 1,024.
+  pub script-whole : (length s ≡ 8 * count s) × (count s ≤ 1024)
+  script-whole = let d = due1-none Rewriting s (nothing .one) in (d .eights, d .most)
+
+  -- It is the bytes of its program, which is well-formed.
+  pub script-program : Program
+  script-program = programOf (file .definitions) (file .main)
+
+  pub script-bytes : s ≡ encodeProgram script-program
+  unfolding script-program
+  script-bytes = file-bytes Rewriting s (p .bytes) (file .definitions) (file .place) (file .main) (file .is) (nothing .one) (nothing .two) (nothing .four)
+
+  pub script-formed : WellFormed Rewriting script-program
+  unfolding script-program
+  script-formed = none-formed Rewriting s (p .bytes) (file .definitions) (file .place) (file .main) (file .is) nothing
+
+  -- It has as many definitions as its program, at most 128.
+  pub script-count : definitionCount (fileOf s) ≡ length (script-program .definitions)
+  unfolding script-program
+  script-count = ap definitionCount (file .is) ∙ sym (bodies-length (file .definitions))
+
+  pub script-few : definitionCount (fileOf s) ≤ 128
+  script-few = omega (arith, script-count, script-formed .few)
+
+-- ---- what is written
+
+module _ {s g : List ℕ} (p : Passed s g) where
+  -- The file that is written is the rewritten program's.
+  pub written-is : writtenFile s g ≡ encodeProgram (rewrite (guidelineOf g) (script-program (p .script)))
+  unfolding writtenFile script-program
+  written-is = ap (rewrittenFile (guidelineOf g)) (file (p .script) .is)
+
+  module _ {ms : List ℕ} (h : Marks g (recordCount g) ms) where
+    -- The marks are what each function gains.
+    marks-are : Marked (guidelineOf g) ms
+    marks-are f l = h .mark f l ∙ mark-is g f (guidelineOf g) (accepted-standing g (p .bytes) (verdict-file (definitionCount (fileOf s)) g (p .verdict)))
+
+    -- It is what the loop writes.
+    pub grown-written : grown ms s 0 (count s) ≡ writtenFile s g
+    unfolding script-program
+    grown-written =
+        let f = file (p .script) in
+        let ds : List Definition = f .definitions in
+        let n : Numbered 0 ds = misnumbered-none 0 ds (rw (f .is) at (nothing (p .script) .four)) in
+        ap (grown ms s 0) (sym (sub-zero (count s)))
+        ∙ grown-program (guidelineOf g) ms s marks-are (f .place) (f .main) 0 0 ds (file-laid s 0 ds (f .place) (f .main) (f .is)) n (script-bytes (p .script))
+        ∙ sym written-is
+
+    -- How long it is.
+    pub written-length : {d k : ℕ} → d ≡ definitionCount (fileOf s) → k ≡ gains ms 0 d → length (writtenFile s g) ≡ 8 * (count s + k)
+    unfolding script-program
+    written-length {d} q e =
+        let f = file (p .script) in
+        let bs : List Term = bodiesOf (f .definitions) in
+        let n : d ≡ length bs = q ∙ script-count (p .script) in
+        let k = definitions-grow (guidelineOf g) ms marks-are 0 bs (omega (arith, script-few (p .script))) in
+        let c = laid-count s 0 (f .definitions) (f .place) (f .main) (file-laid s 0 (f .definitions) (f .place) (f .main) (f .is)) in
+        ap length written-is ∙ program-length 0 (rewriteFrom (guidelineOf g) 0 bs) (f .main) ∙ rw (e, n) (omega arith)

@@ -1,0 +1,4 @@
+mod Levels
+mod Pieces
+mod Loop
+pub mod Laws

@@ -1,0 +1,40 @@
+/* Lorgwin: the entries of the script engine for C. Build the archive with `rt staticlib console` and link target/staticlib/libconsole.a.
+ *
+ * Every entry ends, whatever it is given, and reads and writes nothing beyond the buffers that it is lent. Buffers must not overlap. A refusal
+ * (number not 0) alters no lent byte, and all words after `place` are then 0. Numbers and places are those of the scope document. */
+#ifndef LORGWIN_H
+#define LORGWIN_H
+
+#include <stddef.h>
+#include <stdint.h>
+
+#ifdef __cplusplus
+extern "C" {
+#endif
+
+/* A refusal's number and the first faulty record; 0 and 0 where nothing is refused. */
+typedef struct {
+    uint32_t number, place;
+} lorgwin_verdict;
+
+/* Bytes that deriving writes; bytes of the table past them stay as they are. */
+#define LORGWIN_TABLE_BYTES 8192
+
+/* What lorgwin_pass_term answers where no whole term begins. */
+#define LORGWIN_NO_TERM UINT64_MAX
+
+/* Checks a script, then a guideline with the functions of that script: numbers 1 to 7, then 11 to 17. */
+lorgwin_verdict lorgwin_check(const uint8_t *script, size_t script_len, const uint8_t *guideline, size_t guideline_len);
+
+/* Writes the derived predicates of a guideline: p(a, b) is bit b mod 8 of byte 512 p + 8 a + b div 8, values numbered by first appearance.
+ * Numbers: 23 for a table too short, then 11 to 16. What the table held before does not matter. */
+lorgwin_verdict lorgwin_derive(const uint8_t *guideline, size_t guideline_len, uint8_t *table, size_t table_len);
+
+/* The record after the whole term that begins at a record, going by kinds alone, or LORGWIN_NO_TERM. */
+uint64_t lorgwin_pass_term(const uint8_t *script, size_t script_len, uint64_t record);
+
+#ifdef __cplusplus
+}
+#endif
+
+#endif

@@ -1,0 +1,97 @@
+//! Guidelines, valid or with counts one too many and heads unbound.
+
+use super::{Counts, Rng};
+
+type Record = [u8; 16];
+
+/// Bytes 0 to 3 and the two numbers after them.
+fn record(small: [u8; 4], numbers: [u32; 2]) -> Record {
+    let mut record = [0; 16];
+    record[..4].copy_from_slice(&small);
+    record[4..8].copy_from_slice(&numbers[0].to_le_bytes());
+    record[8..12].copy_from_slice(&numbers[1].to_le_bytes());
+    record
+}
+
+/// A guideline for a script with this many functions.
+pub fn guideline(rng: &mut Rng, functions: usize, counts: Counts) -> Vec<u8> {
+    let mut out = facts(rng, counts);
+    for _ in 0..rng.below(6) {
+        out.extend(rule(rng, counts));
+    }
+    if functions > 0 {
+        let most = rng.pick(&[0, 1, 2, 4]);
+        for _ in 0..count(rng, 8, counts) {
+            let triggers = count(rng, most, counts);
+            out.extend(clause(rng, functions, triggers));
+        }
+    }
+    // A fact may be repeated, up to 256 records in all.
+    if out.first().is_some_and(|record| record[0] == 1) && rng.one_in(12) {
+        let all = 256 + usize::from(counts == Counts::OneTooMany);
+        out.splice(0..0, vec![out[0]; all - out.len()]);
+    }
+    out.concat()
+}
+
+/// A count up to `most`, at times `most` itself or one more.
+fn count(rng: &mut Rng, most: usize, counts: Counts) -> usize {
+    match rng.below(10) {
+        0 if counts == Counts::OneTooMany => most + 1,
+        0 | 1 => most,
+        _ => rng.below(most.min(3) + 1),
+    }
+}
+
+fn predicate(rng: &mut Rng) -> u8 {
+    rng.pick(&[0, 0, 0, 1, 1, 2, 15])
+}
+
+/// Over few values, which scripts are likely to use, or over as many as there may be.
+fn facts(rng: &mut Rng, counts: Counts) -> Vec<Record> {
+    if rng.one_in(8) {
+        let values: Vec<u32> = (0..64 + u32::from(counts == Counts::OneTooMany)).collect();
+        let pairs = values.chunks(2).map(|pair| [pair[0], pair[pair.len() - 1]]);
+        return pairs.map(|pair| record([1, predicate(rng), 3, 3], pair)).collect();
+    }
+    let fact = |rng: &mut Rng| {
+        let kinds = [0; 2].map(|_| rng.pick(&[2, 3, 3, 3, 4]));
+        let numbers = [0; 2].map(|_| rng.below(6) as u32);
+        record([1, predicate(rng), kinds[0], kinds[1]], numbers)
+    };
+    (0..rng.pick(&[0, 4, 8, 16, 40])).map(|_| fact(rng)).collect()
+}
+
+/// A head and its atoms.
+fn rule(rng: &mut Rng, counts: Counts) -> Vec<Record> {
+    let atom = |rng: &mut Rng, kind: u8, variables: &[u8]| {
+        let places = [0; 2].map(|_| rng.pick(variables));
+        record([kind, predicate(rng), places[0], places[1]], [0, 0])
+    };
+    let atoms = count(rng, 4, counts).max(1);
+    let mut rule: Vec<Record> = (0..atoms).map(|_| atom(rng, 3, &[0, 1, 2, 3])).collect();
+    let mut variables: Vec<u8> = rule.iter().flat_map(|atom| [atom[2], atom[3]]).collect();
+    if counts == Counts::OneTooMany && rng.one_in(8) {
+        variables = vec![0, 1, 2, 3];
+    }
+    rule.insert(0, atom(rng, 2, &variables));
+    rule
+}
+
+/// A head, its triggers and its conditions.
+fn clause(rng: &mut Rng, functions: usize, triggers: usize) -> Vec<Record> {
+    let name = |rng: &mut Rng, kind: u8| record([kind, 0, 0, 0], [rng.below(functions) as u32, 0]);
+    let mut clause = vec![name(rng, 4)];
+    clause.extend((0..triggers).map(|_| name(rng, 5)));
+    for _ in 0..rng.pick(&[0, 0, 1, 2, 3, 6]) {
+        let kind = rng.pick(&[6, 7, 7, 8, 8]);
+        let first = match kind {
+            6 => 0,
+            7 => predicate(rng),
+            _ => rng.below(2) as u8,
+        };
+        let [i, j] = [0; 2].map(|_| rng.below(triggers.min(4) + 1) as u8);
+        clause.push(record([kind, first, i, j], [0, 0]));
+    }
+    clause
+}

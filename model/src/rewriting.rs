@@ -1,0 +1,32 @@
+//! "As in source document 002: a logged function's body gains 6 then 7, a trigger's body gains 6
+//! only, a function that is both gains 6 and 7 once. All else is copied."
+
+use crate::guideline::Guideline;
+use crate::script::{Script, Term};
+use std::rc::Rc;
+
+pub fn rewrite(script: &Script, guideline: &Guideline) -> Script {
+    let definitions = script.definitions.iter().enumerate().map(|(number, body)| {
+        let function = number as u32;
+        let argument = Rc::new(Term::Variable(0));
+        let mut body = body.clone();
+        if logs(guideline, function) {
+            body = Rc::new(Term::Emit(function, argument.clone(), body));
+        }
+        if notes(guideline, function) {
+            body = Rc::new(Term::CallEvent(function, argument, body));
+        }
+        body
+    });
+    Script { definitions: definitions.collect(), main: script.main.clone() }
+}
+
+fn logs(guideline: &Guideline, function: u32) -> bool {
+    guideline.clauses.iter().any(|clause| clause.function == function)
+}
+
+/// "A noted call is one of a function that gains 6": a logged function or a trigger.
+pub fn notes(guideline: &Guideline, function: u32) -> bool {
+    let triggers = |f| guideline.clauses.iter().any(|clause| clause.triggers.contains(&f));
+    logs(guideline, function) || triggers(function)
+}

@@ -1,0 +1,165 @@
+//! The model on generated cases: what refusals and answers leave in lent bytes, that the cases
+//! reach every number and outcome, and demand 3.
+
+use model::demand::{demand_3, Ended};
+use model::generate::{budget, files, Case, Rng};
+use model::*;
+use std::collections::{BTreeMap, BTreeSet};
+
+const CASES: u64 = 6_000;
+
+/// Lent buffers, with the same noise for the same length.
+fn lend<const N: usize>(lengths: [usize; N]) -> [Vec<u8>; N] {
+    lengths.map(|length| Rng(length as u64).bytes(length))
+}
+
+/// A refusal alters no byte; an answer none past the sizes.
+fn untouched<const N: usize>(seed: u64, verdict: Verdict, lent: &[Vec<u8>; N], sizes: [usize; N]) {
+    let before = lend(lent.each_ref().map(Vec::len));
+    for i in 0..N {
+        let size = if verdict.number == 0 { sizes[i] } else { 0 };
+        assert!(lent[i][size..] == before[i][size..], "seed {seed}: a byte is altered");
+    }
+}
+
+/// "The output has 4 records more for each distinct logged function and 2 for each other trigger."
+fn more_records(guideline: &[u8]) -> u32 {
+    let of_kind = |kind: u8| -> BTreeSet<&[u8]> {
+        let records = guideline.chunks(16).filter(|record| record[0] == kind);
+        records.map(|record| &record[4..8]).collect()
+    };
+    let (logged, triggers) = (of_kind(4), of_kind(5));
+    (4 * logged.len() + 2 * triggers.difference(&logged).count()) as u32
+}
+
+/// The term reader passes over all bodies and the main term of an accepted script.
+fn passes(script: &[u8]) -> bool {
+    let mut at = 0;
+    while script[8 * at as usize] == 8 {
+        at = pass_term(script, at + 1).unwrap();
+    }
+    pass_term(script, at) == Some(script.len() as u64 / 8)
+}
+
+#[test]
+fn entries() {
+    let mut numbers: BTreeMap<(&str, u32), u32> = BTreeMap::new();
+    let mut outcomes: BTreeMap<(&str, u32), u32> = BTreeMap::new();
+    let mut logged = 0;
+    for seed in 0..CASES {
+        let case = Case::new(seed);
+        let (script, guideline) = (&case.script, &case.guideline);
+        let mut see = |entry, verdict: Verdict| {
+            *numbers.entry((entry, verdict.number)).or_default() += 1;
+            verdict.number == 0
+        };
+
+        if see("check", check(script, guideline)) {
+            assert!(passes(script), "seed {seed}: the term reader");
+        }
+
+        let mut lent = lend([case.table]);
+        let verdict = derive(guideline, &mut lent[0]);
+        untouched(seed, verdict, &lent, [TABLE]);
+        see("derive", verdict);
+        let [derived] = lent;
+
+        let mut lent = lend([case.out]);
+        let (verdict, count) = rewrite(script, guideline, &mut lent[0]);
+        untouched(seed, verdict, &lent, [count as usize * 8]);
+        if see("rewrite", verdict) {
+            let wanted = script.len() as u32 / 8 + more_records(guideline);
+            assert_eq!(count, wanted, "seed {seed}: the count of records");
+        }
+
+        let mut lent = lend([case.expression, case.scratch]);
+        let [expression, scratch] = &mut lent;
+        let (verdict, outcome, _) = run_plain(script, case.budget, expression, scratch);
+        untouched(seed, verdict, &lent, [EXPRESSION, SCRATCH]);
+        if see("plain", verdict) {
+            *outcomes.entry(("plain", outcome)).or_default() += 1;
+        }
+
+        let mut lent = lend([case.expression, case.scratch, case.history, case.log, case.table]);
+        let [expression, scratch, history, log, table] = &mut lent;
+        let budget = case.budget;
+        let (verdict, outcome, _, _, count) =
+            run_rewritten(script, guideline, budget, expression, scratch, history, log, table);
+        untouched(seed, verdict, &lent, [EXPRESSION, SCRATCH, HISTORY, LOG, TABLE]);
+        if see("rewritten", verdict) {
+            assert!(lent[4][..TABLE] == derived[..TABLE], "seed {seed}: the tables differ");
+            *outcomes.entry(("rewritten", outcome)).or_default() += 1;
+            logged += count;
+        }
+    }
+    println!("numbers {numbers:?}\noutcomes {outcomes:?}\nlog entries {logged}");
+
+    let script = 0..=7;
+    let both = script.clone().chain(11..=17);
+    let all = [
+        ("check", both.clone().collect()),
+        ("derive", vec![0, 11, 12, 13, 14, 15, 16, 23]),
+        ("rewrite", both.clone().chain([21]).collect()),
+        ("plain", script.chain([22, 23]).collect()),
+        ("rewritten", both.chain([22, 23]).collect()),
+    ];
+    for (entry, all) in all {
+        let seen: Vec<u32> = numbers.keys().filter(|key| key.0 == entry).map(|key| key.1).collect();
+        assert_eq!(seen, all, "the numbers of {entry}");
+    }
+    for (entry, all) in [("plain", 0..4), ("rewritten", 0..5)] {
+        let seen = outcomes.keys().filter(|key| key.0 == entry).map(|key| key.1);
+        assert!(seen.eq(all), "the outcomes of {entry}");
+    }
+}
+
+/// What the rewritten run of a script under a guideline returns: outcome, steps, expression, log.
+fn rewritten_run(script: &[u8], guideline: &[u8], budget: u64) -> (u32, u32, Vec<u8>, Vec<u8>) {
+    let [mut out, mut expression, mut scratch, mut history, mut log, mut table] =
+        lend([8 * 1_120, EXPRESSION, SCRATCH, HISTORY, LOG, TABLE]);
+    let (verdict, count) = rewrite(script, guideline, &mut out);
+    assert_eq!(verdict, Verdict::default());
+    let (verdict, outcome, steps, _, logged) = run_rewritten(
+        &out[..8 * count as usize],
+        guideline,
+        budget,
+        &mut expression,
+        &mut scratch,
+        &mut history,
+        &mut log,
+        &mut table,
+    );
+    assert_eq!(verdict, Verdict::default());
+    log.truncate(16 * logged as usize);
+    (outcome, steps, expression, log)
+}
+
+#[test]
+fn demand_3_holds() {
+    let (mut full, mut logged) = (0, 0);
+    for seed in 0..CASES {
+        let rng = &mut Rng(seed);
+        let (script, guideline) = files(rng);
+        let budget = budget(rng, &script, &guideline);
+        if budget > BUDGET {
+            continue;
+        }
+        let (outcome, steps, expression, log) = rewritten_run(&script, &guideline, budget);
+        let ended = Ended { outcome, steps, expression: &expression, log: &log };
+        assert_eq!(demand_3(&script, &guideline, budget, &ended), Ok(()), "seed {seed}");
+
+        // Demand 3 tells other runs apart.
+        let other = Ended { steps: steps + 1, ..ended };
+        assert!(demand_3(&script, &guideline, budget, &other).is_err(), "seed {seed}: steps");
+        let other = Ended { outcome: (outcome + 1) % 5, ..ended };
+        assert!(demand_3(&script, &guideline, budget, &other).is_err(), "seed {seed}: outcome");
+        if !log.is_empty() {
+            let other = Ended { log: &log[16..], ..ended };
+            assert!(demand_3(&script, &guideline, budget, &other).is_err(), "seed {seed}: log");
+        }
+        full += u32::from(outcome == 4);
+        logged += log.len() / 16;
+    }
+    println!("full histories {full}, log entries {logged}");
+    assert!(full > 10 && logged > 1_000);
+}
