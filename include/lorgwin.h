@@ -17,8 +17,26 @@ typedef struct {
     uint32_t number, place;
 } lorgwin_verdict;
 
-/* Bytes that deriving writes; bytes of the table past them stay as they are. */
+/* The same with the count of records written. */
+typedef struct {
+    uint32_t number, place, records;
+} lorgwin_rewriting;
+
+/* The same with the outcome and the steps made. */
+typedef struct {
+    uint32_t number, place, outcome, steps;
+} lorgwin_plain_run;
+
+/* Outcomes. */
+enum { LORGWIN_VALUE = 0, LORGWIN_STUCK = 1, LORGWIN_SPENT = 2, LORGWIN_LARGE = 3, LORGWIN_FULL = 4 };
+
+/* Bytes that an entry uses of a buffer; bytes past them stay as they are. Within them, what is unused is zero afterwards. */
 #define LORGWIN_TABLE_BYTES 8192
+#define LORGWIN_EXPRESSION_BYTES 24576
+#define LORGWIN_SCRATCH_BYTES 24576
+
+/* The longest file that rewriting writes. */
+#define LORGWIN_REWRITTEN_BYTES 8960
 
 /* What lorgwin_pass_term answers where no whole term begins. */
 #define LORGWIN_NO_TERM UINT64_MAX
@@ -32,6 +50,14 @@ lorgwin_verdict lorgwin_derive(const uint8_t *guideline, size_t guideline_len, u
 
 /* The record after the whole term that begins at a record, going by kinds alone, or LORGWIN_NO_TERM. */
 uint64_t lorgwin_pass_term(const uint8_t *script, size_t script_len, uint64_t record);
+
+/* Rewrites a script under a guideline into `out`: numbers 1 to 7, 11 to 17, then 21 for an output too short. Only the needed bytes are
+ * written. */
+lorgwin_rewriting lorgwin_rewrite(const uint8_t *script, size_t script_len, const uint8_t *guideline, size_t guideline_len, uint8_t *out, size_t out_len);
+
+/* Runs a script that is not rewritten, for at most `budget` steps: numbers 22, 23, then 1 to 7. Leaves the last expression at the front of its
+ * buffer. */
+lorgwin_plain_run lorgwin_run_plain(const uint8_t *script, size_t script_len, uint32_t budget, uint8_t *expression, size_t expression_len, uint8_t *scratch, size_t scratch_len);
 
 #ifdef __cplusplus
 }

@@ -17,6 +17,7 @@ struct Workload {
     name: String,
     script: Vec<u8>,
     guideline: Vec<u8>,
+    budget: u32,
     what: String,
 }
 
@@ -26,7 +27,8 @@ fn workloads() -> Vec<Workload> {
     let index = fs::read_to_string(format!("{folder}/index.txt")).unwrap();
     let line = |line: &str| {
         let words: Vec<&str> = line.splitn(5, ' ').collect();
-        Workload { name: words[0].into(), script: file(words[1]), guideline: file(words[2]), what: words[4].into() }
+        let budget = words[3].parse().unwrap();
+        Workload { name: words[0].into(), script: file(words[1]), guideline: file(words[2]), budget, what: words[4].into() }
     };
     index.lines().map(line).collect()
 }
@@ -43,29 +45,60 @@ fn best(mut call: impl FnMut()) -> Duration {
     least
 }
 
-/// What is measured on a workload: deriving (w6), or checking (w7).
-fn engine(w: &Workload) -> Option<Duration> {
-    let mut table = vec![0; 8192];
-    if w.name.starts_with("w6") {
-        return Some(best(|| assert_eq!(lorgwin_tests::derive(black_box(&w.guideline), &mut table).number, 0)));
-    }
-    if w.name.starts_with("w7") {
-        return Some(best(|| assert_eq!(lorgwin_tests::check(black_box(&w.script), black_box(&w.guideline)).number, 0)));
-    }
-    None
+/// What is measured on a workload.
+enum Kind {
+    /// Plain runs, w1 to w4: the time of a step.
+    Plain,
+    /// Deriving, w6.
+    Derive,
+    /// Checking and rewriting, w7.
+    Rewrite,
 }
 
-fn plain(w: &Workload) -> Duration {
-    let mut table = vec![0; 8192];
-    if w.name.starts_with("w6") {
-        best(|| assert_eq!(model::derive(black_box(&w.guideline), &mut table).number, 0))
-    } else {
-        best(|| assert_eq!(model::check(black_box(&w.script), black_box(&w.guideline)).number, 0))
+fn kind(name: &str) -> Option<Kind> {
+    match name.as_bytes()[1] {
+        b'1'..=b'4' => Some(Kind::Plain),
+        b'6' => Some(Kind::Derive),
+        b'7' => Some(Kind::Rewrite),
+        _ => None,
+    }
+}
+
+fn engine(w: &Workload, kind: &Kind) -> Duration {
+    let (mut first, mut second) = (vec![0; 24576], vec![0; 24576]);
+    match kind {
+        Kind::Plain => {
+            let mut steps = 1;
+            best(|| steps = lorgwin_tests::run_plain(black_box(&w.script), w.budget, &mut first, &mut second).steps) / steps.max(1)
+        }
+        Kind::Derive => best(|| assert_eq!(lorgwin_tests::derive(black_box(&w.guideline), &mut first).number, 0)),
+        Kind::Rewrite => best(|| {
+            assert_eq!(lorgwin_tests::check(black_box(&w.script), black_box(&w.guideline)).number, 0);
+            assert_eq!(lorgwin_tests::rewrite(black_box(&w.script), black_box(&w.guideline), &mut first).number, 0);
+        }),
+    }
+}
+
+/// The model makes fewer steps of a plain run: its time goes by the step.
+fn plain(w: &Workload, kind: &Kind) -> Duration {
+    let (mut first, mut second) = (vec![0; 24576], vec![0; 24576]);
+    match kind {
+        Kind::Plain => {
+            let mut steps = 1;
+            let budget = u64::from(w.budget.min(20_000));
+            best(|| steps = model::run_plain(black_box(&w.script), budget, &mut first, &mut second).2) / steps.max(1)
+        }
+        Kind::Derive => best(|| assert_eq!(model::derive(black_box(&w.guideline), &mut first).number, 0)),
+        Kind::Rewrite => best(|| {
+            assert_eq!(model::check(black_box(&w.script), black_box(&w.guideline)).number, 0);
+            assert_eq!(model::rewrite(black_box(&w.script), black_box(&w.guideline), &mut first).0.number, 0);
+        }),
     }
 }
 
 fn shown(time: Duration) -> String {
     match time.as_nanos() {
+        n if n < 10_000 => format!("{n} ns"),
         n if n < 1_000_000 => format!("{:.1} µs", n as f64 / 1e3),
         n => format!("{:.2} ms", n as f64 / 1e6),
     }
@@ -91,12 +124,13 @@ fn main() {
     let all = workloads();
     if let Some(name) = env::args().nth(1) {
         let w = all.iter().find(|w| w.name == name).unwrap();
-        println!("{}", plain(w).as_nanos());
+        println!("{}", plain(w, &kind(&name).unwrap()).as_nanos());
         return;
     }
     println!("| workload | what it stresses | engine | plain Rust | ratio |\n|---|---|---|---|---|");
     for w in &all {
-        let Some(time) = engine(w) else { continue };
+        let Some(kind) = kind(&w.name) else { continue };
+        let time = engine(w, &kind);
         let (other, ratio) = match apart(&w.name) {
             Some(t) => (shown(t), format!("{:.2}", time.as_secs_f64() / t.as_secs_f64())),
             None => (format!("over {} s", LIMIT.as_secs()), "-".into()),

@@ -7,10 +7,44 @@ pub struct Verdict {
     pub place: u32,
 }
 
+#[repr(C)]
+#[derive(Debug, Clone, Copy, PartialEq, Eq)]
+pub struct Rewriting {
+    pub number: u32,
+    pub place: u32,
+    pub records: u32,
+}
+
+#[repr(C)]
+#[derive(Debug, Clone, Copy, PartialEq, Eq)]
+pub struct PlainRun {
+    pub number: u32,
+    pub place: u32,
+    pub outcome: u32,
+    pub steps: u32,
+}
+
 extern "C" {
     fn lorgwin_check(script: *const u8, script_len: usize, guideline: *const u8, guideline_len: usize) -> Verdict;
     fn lorgwin_derive(guideline: *const u8, guideline_len: usize, table: *mut u8, table_len: usize) -> Verdict;
     fn lorgwin_pass_term(script: *const u8, script_len: usize, record: u64) -> u64;
+    fn lorgwin_rewrite(
+        script: *const u8,
+        script_len: usize,
+        guideline: *const u8,
+        guideline_len: usize,
+        out: *mut u8,
+        out_len: usize,
+    ) -> Rewriting;
+    fn lorgwin_run_plain(
+        script: *const u8,
+        script_len: usize,
+        budget: u32,
+        expression: *mut u8,
+        expression_len: usize,
+        scratch: *mut u8,
+        scratch_len: usize,
+    ) -> PlainRun;
 }
 
 pub fn check(script: &[u8], guideline: &[u8]) -> Verdict {
@@ -25,4 +59,13 @@ pub fn derive(guideline: &[u8], table: &mut [u8]) -> Verdict {
 pub fn pass_term(script: &[u8], record: u64) -> Option<u64> {
     let next = unsafe { lorgwin_pass_term(script.as_ptr(), script.len(), record) };
     (next != u64::MAX).then_some(next)
+}
+
+pub fn rewrite(script: &[u8], guideline: &[u8], out: &mut [u8]) -> Rewriting {
+    unsafe { lorgwin_rewrite(script.as_ptr(), script.len(), guideline.as_ptr(), guideline.len(), out.as_mut_ptr(), out.len()) }
+}
+
+pub fn run_plain(script: &[u8], budget: u32, expression: &mut [u8], scratch: &mut [u8]) -> PlainRun {
+    let (e, s) = (expression.len(), scratch.len());
+    unsafe { lorgwin_run_plain(script.as_ptr(), script.len(), budget, expression.as_mut_ptr(), e, scratch.as_mut_ptr(), s) }
 }

@@ -5,6 +5,8 @@ use lorgwin_tests as engine;
 use std::collections::HashMap;
 
 const TABLE: usize = 8192;
+const BUFFER: usize = 24576;
+const OUTCOMES: [&str; 5] = ["value", "stuck", "spent", "large", "full"];
 /// Bytes lent past what an entry uses.
 const SPARE: usize = 96;
 
@@ -78,6 +80,16 @@ impl Vector {
         self.wanted[key].parse().unwrap()
     }
 
+    /// A word of the answer, 0 where a refusal leaves it out.
+    fn word(&self, key: &str) -> u32 {
+        self.wanted.get(key).map_or(0, |n| n.parse().unwrap())
+    }
+
+    fn outcome(&self) -> u32 {
+        let number = |word: &String| OUTCOMES.iter().position(|o| o == word).unwrap() as u32;
+        self.wanted.get("outcome").map_or(0, number)
+    }
+
     /// Number and place.
     fn verdict(&self) -> (u32, u32) {
         (self.number("number"), self.number("place"))
@@ -142,5 +154,51 @@ fn pass_term_vectors() {
         let wanted = v.wanted["next"].parse().ok();
         assert_eq!(engine::pass_term(&script, record), wanted, "{}", v.name);
         assert_eq!(model::pass_term(&script, record), wanted, "the model on {}", v.name);
+    }
+}
+
+/// A rewrite vector by one implementation of the entry.
+fn rewrites(v: &Vector, rewrite: impl Fn(&[u8], &[u8], &mut [u8]) -> (u32, u32, u32)) {
+    let before = noise(v.len("out_len", 8960));
+    let mut out = before.clone();
+    let (number, place, records) = rewrite(&v.file("script"), &v.file("guideline"), &mut out);
+    assert_eq!((number, place), v.verdict(), "{}", v.name);
+    assert_eq!(records, v.word("count"), "{}", v.name);
+    let wanted = if number == 0 { over(&bytes(&v.wanted["out"]), &before) } else { before };
+    assert!(out == wanted, "{}: the output differs", v.name);
+}
+
+#[test]
+fn rewrite_vectors() {
+    for v in vectors("rewrite") {
+        rewrites(&v, |s, g, out| {
+            let found = engine::rewrite(s, g, out);
+            (found.number, found.place, found.records)
+        });
+        rewrites(&v, |s, g, out| {
+            let (verdict, records) = model::rewrite(s, g, out);
+            (verdict.number, verdict.place, records)
+        });
+    }
+}
+
+#[test]
+fn plain_vectors() {
+    for v in vectors("plain") {
+        let before = [noise(v.len("expr_len", BUFFER)), noise(v.len("scratch_len", BUFFER))];
+        let [mut expression, mut scratch] = before.clone();
+        let budget = v.given["budget"].parse().unwrap();
+        let found = engine::run_plain(&v.file("script"), budget, &mut expression, &mut scratch);
+        assert_eq!((found.number, found.place), v.verdict(), "{}", v.name);
+        assert_eq!((found.outcome, found.steps), (v.outcome(), v.word("steps")), "{}", v.name);
+        let wanted = if found.number == 0 {
+            let mut last = bytes(&v.wanted["expression"]);
+            last.resize(BUFFER, 0);
+            [over(&last, &before[0]), over(&[0; BUFFER], &before[1])]
+        } else {
+            before
+        };
+        assert!(expression == wanted[0], "{}: the expression differs", v.name);
+        assert!(scratch == wanted[1], "{}: scratch differs", v.name);
     }
 }

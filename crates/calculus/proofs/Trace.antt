@@ -1,4 +1,4 @@
--- The plain run's list of calls is pinned to its steps. Assumes nothing.
+-- The plain run is a trace of the paper's rules, and its list of calls is pinned to its steps. Assumes nothing.
 use mathlib.Core.Bool.{Bool, true, false}
 use mathlib.Core.List.{[], _∷_, _++_, List·Memᴰ, List·Memᴰ·head, Memᴰ·append-left, Memᴰ·append-right, List·Memᴰ·append-cases, List·Memᴰ·eq-of-singleton, List·Memᴰ·not-nil}
 use mathlib.Core.Logic.{_↔_, _⊎_, inl, inr}
@@ -6,14 +6,18 @@ use mathlib.Core.Path.{_≡_, refl, sym, ap, ap₂, _∙_}
 use native.Mathlib.Omega.{arith}
 use Prim.Native.Nat.{ℕ, zero, suc, _≤_, _<_}
 use lib.Dec.{leb, leb→le, nleb→lt}
-use Rattle.calculus.specs.Term.{Term, Codebase, Program, codebase}
+use Rattle.calculus.specs.Term.{Term, Codebase, Program, ClosedCode, ClosedTerm, codebase}
 use Rattle.calculus.specs.Step.{Event, step}
 use Rattle.calculus.specs.Step.Event.{quiet, calls}
 use Rattle.calculus.specs.Step.Next.{next}
 use Rattle.calculus.specs.Entailment.{Call, Entry, entry}
 use Rattle.calculus.specs.Run.{Conf, callsOf, initial, plainTick, plain, plainRun}
+use Rattle.calculus.specs.Trace.{Traces}
+use Rattle.calculus.specs.Trace.Traces.{start, onward}
 use Rattle.calculus.specs.Claim.{callsBelow}
 use Rattle.calculus.proofs.Lists.{each-from, each-into}
+use Rattle.calculus.proofs.Rules.{step-reduces}
+use Rattle.calculus.proofs.Scope.{step-closed}
 use Rattle.calculus.proofs.Run.{Moves, Advance, advance, run-zero, time-most}
 use Rattle.calculus.proofs.Run.Advance.{rests, moves}
 
@@ -102,3 +106,26 @@ calls-cut S k m x l h =
     let q = ap (λ (y : Entry). y .time) (List·Memᴰ·eq-of-singleton j) in
     let r = made-exactly (codebase S) (S .main) k c .0 i in
     each-into (λ (c : Call). entry c ∷ []) (made-exactly (codebase S) (S .main) m c .1 (omega arith, r .1, r .2)) j
+
+-- ---- the paper's traces
+
+-- A configuration that a trace ends on, closed.
+record Traced (C : Codebase) (e : Term) (κ : Conf) : Type 0 where
+  trace : Traces C e (κ .expr) (κ .time) (κ .made)
+  closed : ClosedTerm C (κ .expr)
+
+traced : (C : Codebase) → ClosedCode C → (e : Term) → ClosedTerm C e → (n : ℕ) → Traced C e (plain C n e .last)
+unfolding plain
+traced C code e h zero = rw (run-zero (plainTick C) (initial e)) record { trace = start refl refl refl; closed = h }
+traced C code e h (suc n) = on (advance C e n) (traced C code e h n)
+  where
+    on : Advance C e n → Traced C e (plain C n e .last) → Traced C e (plain C (suc n) e .last)
+    on (rests p) t = rw p t
+    on (moves q p) t =
+        let κ : Conf = plain C n e .last in
+        let r = step-reduces C code (κ .expr) (p .expr) (p .event) (κ .time) (suc (κ .time)) (t .closed) .1 (p .steps, refl) in
+        rw (p .goes) record { trace = onward (t .trace) r refl; closed = step-closed C code (κ .expr) (p .expr) (p .event) (t .closed) (p .steps) }
+
+-- The plain run of a closed program is a trace by the paper's rules, and the calls listed are its Call(n, f, v).
+pub plain-traces : (C : Codebase) → ClosedCode C → (e : Term) → ClosedTerm C e → (n : ℕ) → Traces C e (plain C n e .last .expr) (plain C n e .last .time) (plain C n e .last .made)
+plain-traces C code e h n = traced C code e h n .trace

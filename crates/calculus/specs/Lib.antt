@@ -9,6 +9,7 @@ pub mod Derive
 pub mod Entailment
 pub mod Rewriting
 pub mod Run
+pub mod Trace
 pub mod Log
 pub mod LogRules
 pub mod Claim

@@ -1,15 +1,34 @@
 // The entries for C, as include/lorgwin.h declares them: answers are structs of words, by value.
+use plain::PlainRun;
 use refusal::Verdict;
+use rewriting::Rewritten;
 use terms::Passed;
 ghost use mathlib.Core.Path.{_≡_};
 ghost use Rattle.terms.specs.Walk.{passTerm};
 ghost use Rattle.records.specs.Entries.{checkOf, deriveOf};
-ghost use Rattle.console.specs.Answers.{wordsOf, leavesWords, derivedWords, passedWord};
+ghost use Rattle.rewriting.specs.Answer as rewrites;
+ghost use Rattle.plain.specs.Answer as plains;
+ghost use Rattle.console.specs.Answers.{wordsOf, leavesWords, derivedWords, passedWord, rewritingWords, writesWords, writtenWords, plainWords, ranWords, plainRunWords};
 
 #[repr(C)]
 pub struct VerdictWords {
     pub number: u32,
     pub place: u32,
+}
+
+#[repr(C)]
+pub struct RewritingWords {
+    pub number: u32,
+    pub place: u32,
+    pub records: u32,
+}
+
+#[repr(C)]
+pub struct PlainWords {
+    pub number: u32,
+    pub place: u32,
+    pub outcome: u32,
+    pub steps: u32,
 }
 
 fn verdict_words(v: Verdict) -> VerdictWords
@@ -43,4 +62,52 @@ pub extern "C" fn lorgwin_pass_term(script: &[u8], at: u64) -> u64
         Passed::Next(i) => i as u64,
         Passed::Nothing => 0xffff_ffff_ffff_ffff,
     }
+}
+
+fn rewriting_words(r: Rewritten) -> RewritingWords
+    ensures { λ w. ⌜ w ≡ rewritingWords r ⌝ }
+{
+    RewritingWords {
+        number: r.number,
+        place: r.place,
+        records: r.records,
+    }
+}
+
+#[no_mangle]
+pub extern "C" fn lorgwin_rewrite(script: &[u8], guideline: &[u8], out: &mut [u8]) -> RewritingWords
+    ensures { λ w. ⌜ writesWords (now (out .exit)) w ≡ writtenWords (rewrites.rewriting (now (script .entry)) (now (guideline .entry)) (now (out .entry))) ⌝ }
+{
+    rewriting_words(rewriting::rewrite(script, guideline, out))
+}
+
+fn plain_words(r: PlainRun) -> PlainWords
+    ensures { λ w. ⌜ w ≡ plainWords r ⌝ }
+{
+    match r {
+        PlainRun::Refused(v) => PlainWords {
+            number: v.number,
+            place: v.place,
+            outcome: 0,
+            steps: 0,
+        },
+        PlainRun::Ran(outcome, steps) => PlainWords {
+            number: 0,
+            place: 0,
+            outcome: machine::outcome_number(outcome),
+            steps: steps,
+        },
+    }
+}
+
+#[no_mangle]
+pub extern "C" fn lorgwin_run_plain(
+    script: &[u8],
+    budget: u32,
+    expression: &mut [u8],
+    scratch: &mut [u8],
+) -> PlainWords
+    ensures { λ w. ⌜ ranWords w (now (expression .exit)) (now (scratch .exit)) ≡ plainRunWords (plains.plainOf (now (script .entry)) budget (now (expression .entry)) (now (scratch .entry))) ⌝ }
+{
+    plain_words(plain::plain(script, budget, expression, scratch))
 }
