@@ -1,0 +1,6 @@
+pub mod Tests
+pub mod Lists
+pub mod Early
+pub mod Level
+pub mod Calls
+pub mod Clauses
