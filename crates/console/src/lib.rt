@@ -85,9 +85,9 @@ fn plain_words(r: PlainRun) -> PlainWords
     ensures { λ w. ⌜ w ≡ plainWords r ⌝ }
 {
     match r {
-        PlainRun::Refused(v) => PlainWords {
-            number: v.number,
-            place: v.place,
+        PlainRun::Refused(refusal) => PlainWords {
+            number: refusal.number,
+            place: refusal.place,
             outcome: 0,
             steps: 0,
         },
