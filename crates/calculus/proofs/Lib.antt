@@ -8,6 +8,7 @@ pub mod Least
 pub mod Entailment
 pub mod LogRules
 pub mod Growth
+pub mod Size
 pub mod Run
 pub mod Trace
 pub mod Peel

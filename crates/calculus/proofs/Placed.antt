@@ -18,7 +18,8 @@ use Rattle.calculus.specs.Run.Tick.{halt, stop, go}
 use Rattle.calculus.specs.Log as L
 use Rattle.calculus.specs.Log.{Conf, State, at, tick, settle, isFull, logNext, logTick}
 use Rattle.calculus.proofs.Peel.{step-bare, settle-bare, Similar}
-use Rattle.calculus.proofs.Strip.{stripCode, stripped-bare, bookCode, stripped-peel}
+use Rattle.calculus.specs.Strip.{stripCode}
+use Rattle.calculus.proofs.Strip.{stripped-bare, bookCode, stripped-peel}
 
 -- The expression has no command left once those due are done.
 abbrev Clears : Guideline → Next → Type 0

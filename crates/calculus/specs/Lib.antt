@@ -1,6 +1,7 @@
 pub mod Lists
 pub mod Term
 pub mod Substitution
+pub mod Strip
 pub mod Step
 pub mod Rules
 pub mod Guideline

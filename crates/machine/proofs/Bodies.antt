@@ -12,7 +12,7 @@ use borrow.Author.Tests.{ne-eqb}
 use Rattle.calculus.specs.Term.{Term, view, records, Bare, Placed, codebase, bodies as functions}
 use Rattle.calculus.specs.Term.Term.{var, fun, con, lam, app, callEvent, emit}
 use Rattle.calculus.specs.Term.Placed.{plain, noting, logging}
-use Rattle.calculus.proofs.Strip.{stripEmit, strip}
+use Rattle.calculus.specs.Strip.{stripEmit, strip}
 use Rattle.script.specs.declared.Purpose.the-variants.{RewrittenRun}
 use Rattle.script.proofs.Program.{after-term}
 use Rattle.script.proofs.Accepted.{program-length}

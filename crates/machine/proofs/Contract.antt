@@ -20,14 +20,15 @@ use Rattle.calculus.proofs.Peel.{put-bare}
 use Rattle.terms.specs.Record.{kindAt, recordNumber}
 use Rattle.terms.specs.Read.{termAt}
 use Rattle.terms.specs.Encode.{encode, Fits}
-use Rattle.terms.proofs.Encode.{encode-length}
+use Rattle.terms.proofs.Encode.{encode-length, term-at}
 use Rattle.substitution.specs.Copied.{copied, Lies, WrittenIs}
 use Rattle.substitution.specs.declared.Substituted.{Substituted}
 use Rattle.substitution.specs.declared.Substituted.the-variants.{Done, Full}
-use Rattle.substitution.proofs.Laws.{copied-encode, put-fits, term-at, lies}
+use Rattle.substitution.proofs.Laws.{copied-encode, put-fits, lies}
 use Rattle.zipper.specs.Frame.{Frame, plug}
 use Rattle.zipper.specs.Zipper.{wholeIn, endAt, ZipOf, Poised}
-use Rattle.zipper.proofs.Context.{plug-part, plug-keeps, bare-size}
+use Rattle.calculus.proofs.Size.{bare-size}
+use Rattle.zipper.proofs.Context.{plug-part, plug-keeps}
 use Rattle.zipper.proofs.Parts.{first-inside, bounds, focus-bare, focus-fits}
 use Rattle.zipper.proofs.Whole.{poised-whole, poised-own}
 use Rattle.zipper.proofs.Redex.{abstraction-step, name-step, function-there, head-kind, head-name, head-abstraction, facts, argument-part, room-small, room-large, contracted}

@@ -9,7 +9,8 @@ use Rattle.words.specs.Bytes.{AllBytes}
 use Rattle.calculus.specs.Term.{Term, Program, records, size, Bare, BareCode, BareProgram, Placed, ClosedCode, ClosedTerm, bodies, codebase, definitionRecords}
 use Rattle.calculus.specs.Term.Term.{var, fun, con, lam, app, callEvent, emit}
 use Rattle.calculus.specs.Term.Placed.{plain}
-use Rattle.calculus.proofs.Strip.{strip, stripBody, stripped-bare}
+use Rattle.calculus.specs.Strip.{strip, stripBody}
+use Rattle.calculus.proofs.Strip.{stripped-bare}
 use Rattle.terms.specs.Encode.{encodeProgram, Fits}
 use Rattle.refusal.specs.Refusal.{accepted}
 use Rattle.script.specs.Check.{scriptVerdict, mostRecords}
@@ -19,7 +20,7 @@ use Rattle.script.specs.declared.Purpose.the-variants.{Checking, Rewriting, Pla
 use Rattle.script.proofs.Program.{FitsProgram, file-encode, numbered-bodies}
 use Rattle.script.proofs.Accepted.{accepted-program, formed-fits}
 use Rattle.zipper.specs.Layout.{Expression}
-use Rattle.zipper.proofs.Context.{bare-size}
+use Rattle.calculus.proofs.Size.{bare-size}
 use Rattle.machine.specs.Program.{programIn, codeIn, Formed}
 use Rattle.machine.proofs.Strip.{strip-same, strip-size, defined-strip, strip-closed}
 

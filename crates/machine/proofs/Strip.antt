@@ -5,7 +5,7 @@ use Prim.Native.Nat.{ℕ}
 use native.Mathlib.Omega.{arith}
 use Rattle.calculus.specs.Term.{Term, Codebase, size, Scoped, Defined, Bare, BareCode, ClosedCode}
 use Rattle.calculus.specs.Term.Term.{var, fun, con, lam, app, callEvent, emit}
-use Rattle.calculus.proofs.Strip.{stripEmit, strip, stripBody, stripCode}
+use Rattle.calculus.specs.Strip.{stripEmit, strip, stripBody, stripCode}
 use Rattle.terms.specs.Encode.{Fits}
 
 -- ---- without commands there is nothing to strip

@@ -4,7 +4,7 @@ use mathlib.Core.Path.{_≡_}
 use Prim.Native.Nat.{ℕ}
 use Rattle.calculus.specs.Term.{Program, Codebase, codebase}
 use Rattle.calculus.specs.Term.Term.{con}
-use Rattle.calculus.proofs.Strip.{stripCode}
+use Rattle.calculus.specs.Strip.{stripCode}
 use Rattle.terms.specs.Encode.{encodeProgram}
 use Rattle.script.specs.File.{File, fileOf, programOf}
 use Rattle.script.specs.File.File.{whole, broken}

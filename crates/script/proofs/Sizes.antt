@@ -12,6 +12,7 @@ use Rattle.calculus.specs.Lists.{each}
 use Rattle.calculus.specs.Term.{Term, records, size, Bare, Placed, definitionRecords}
 use Rattle.calculus.specs.Term.Placed.{plain, noting, logging}
 use Rattle.calculus.specs.Term.Term.{var, fun, con, lam, app, callEvent, emit}
+use Rattle.calculus.proofs.Size.{bare-size}
 use Rattle.terms.specs.Record.{count}
 use Rattle.terms.proofs.Stands.{At, Stands}
 use Rattle.script.specs.Check.{isCommand, commandsBelow, tooMany}
@@ -22,17 +23,6 @@ use Rattle.script.proofs.Due.{cond-none}
 use Rattle.script.proofs.Each.{Between, each-from}
 use Rattle.script.proofs.Laid.{Laid, bodiesOf}
 use Rattle.script.proofs.Placed.{PlacedFrom}
-
--- Every record of a bare term counts.
-bare-size : (t : Term) → Bare t → size t ≡ records t
-unfolding size records
-bare-size (var n) b = refl
-bare-size (fun n) b = refl
-bare-size (con n) b = refl
-bare-size (lam n t) b = ap suc (bare-size t b)
-bare-size (app a t) b = omega (arith, bare-size a (b .0), bare-size t (b .1))
-bare-size (callEvent n a r) b = absurd b
-bare-size (emit n a r) b = absurd b
 
 -- ---- the commands below a record
 

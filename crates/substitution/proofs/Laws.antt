@@ -17,7 +17,7 @@ use Rattle.terms.specs.Record.{record8}
 use Rattle.terms.specs.Encode.{encode, Fits}
 use Rattle.terms.specs.Read.{Read, readAt, termOf, termAt}
 use Rattle.terms.specs.Read.Read.{got, stuck}
-use Rattle.terms.proofs.Encode.{encode-length, read-encode-at, read-fits}
+use Rattle.terms.proofs.Encode.{encode-length, read-fits, term-at}
 use Rattle.substitution.specs.Copied.{copied, Lies, WrittenIs}
 use Rattle.substitution.specs.declared.Substituted.{Substituted}
 use Rattle.substitution.specs.declared.Substituted.the-variants.{Done, Full}
@@ -86,17 +86,6 @@ put-records-le d v (app a b) = omega (arith, put-records-le d v a, put-records-l
 put-records-le d v (callEvent n a r) = omega (arith, put-records-le d v a, put-records-le d v r)
 put-records-le d v (emit n a r) = omega (arith, put-records-le d v a, put-records-le d v r)
 
--- Where no command stands, *large* counts every record.
-pub bare-size : (t : Term) → Bare t → size t ≡ records t
-unfolding size records
-bare-size (var n) b = refl
-bare-size (fun n) b = refl
-bare-size (con n) b = refl
-bare-size (lam n t) b = omega (arith, bare-size t b)
-bare-size (app a r) b = omega (arith, bare-size a (b .0), bare-size r (b .1))
-bare-size (callEvent n a r) b = absurd b
-bare-size (emit n a r) b = absurd b
-
 -- The numbers of the copy's records fit.
 pub put-fits : (d : ℕ) (v t : Term) → Fits v → Fits t → Fits (putTerm d v t)
 unfolding putTerm
@@ -113,11 +102,6 @@ put-fits d v (callEvent n a r) g f = (f .0, put-fits d v a g (f .1), put-fits d 
 put-fits d v (emit n a r) g f = (f .0, put-fits d v a g (f .1), put-fits d v r g (f .2))
 
 -- ---- the term at a record
-
--- It is the one whose bytes lie there.
-pub term-at : (s : List ℕ) (at : ℕ) (t : Term) (rest : List ℕ) → Fits t → drop (8 * at) s ≡ encode t ++ rest → termAt s at ≡ t
-unfolding termAt
-term-at s at t rest f e = ap termOf (read-encode-at s at t rest f e)
 
 -- Its numbers fit.
 pub fits-at : (s : List ℕ) → AllBytes s → (at : ℕ) → Fits (termAt s at)

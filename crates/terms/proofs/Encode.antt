@@ -11,7 +11,7 @@ use Rattle.words.specs.Bytes.{number, bytes, part, AllBytes, bytes-length, numb
 use Rattle.calculus.specs.Term.{Term, records}
 use Rattle.calculus.specs.Term.Term.{var, fun, con, lam, app, callEvent, emit}
 use Rattle.terms.specs.Record.{count, kindAt, spareAt, recordNumber, record8, inRange}
-use Rattle.terms.specs.Read.{readAt}
+use Rattle.terms.specs.Read.{readAt, termOf, termAt}
 use Rattle.terms.specs.Read.Read.{got}
 use Rattle.terms.specs.Encode.{encode, Fits, Clean}
 use Rattle.terms.proofs.Stands.{At, Stands, stands-read, read-stands}
@@ -128,6 +128,11 @@ encode-stands s i (emit n a r) rest h e = (
 -- A term whose bytes lie at a record is read there.
 pub read-encode-at : (s : List ℕ) (i : ℕ) (t : Term) (rest : List ℕ) → Fits t → drop (8 * i) s ≡ encode t ++ rest → readAt s i ≡ got t (i + records t)
 read-encode-at s i t rest h e = stands-read s i t (encode-stands s i t rest h e)
+
+-- It is the term at that record.
+pub term-at : (s : List ℕ) (i : ℕ) (t : Term) (rest : List ℕ) → Fits t → drop (8 * i) s ≡ encode t ++ rest → termAt s i ≡ t
+unfolding termAt
+term-at s i t rest h e = ap termOf (read-encode-at s i t rest h e)
 
 -- Reading back what was encoded gives the term.
 pub read-encode : (t : Term) (rest : List ℕ) → Fits t → readAt (encode t ++ rest) 0 ≡ got t (records t)

@@ -84,16 +84,3 @@ module _ (P : Term → Type 0) (apart : (a b : Term) → P (app a b) → P a × 
       plug-keeps join K (app t b) (app n b) h (join n b g (apart t b (plug-part K (app t b) h) .1))
   plug-keeps join (done a ∷ K) t n h g =
       plug-keeps join K (app a t) (app a n) h (join a n (apart a t (plug-part K (app a t) h) .0) g)
-
--- ---- sizes
-
--- Without commands the records that *large* counts are all records.
-pub bare-size : (t : Term) → Bare t → size t ≡ records t
-unfolding size records
-bare-size (var i) b = refl
-bare-size (fun i) b = refl
-bare-size (con i) b = refl
-bare-size (lam i t) b = ap suc (bare-size t b)
-bare-size (app x y) b = ap₂ (λ (m n : ℕ). suc (m + n)) (bare-size x (b .0)) (bare-size y (b .1))
-bare-size (callEvent i x y) b = absurd b
-bare-size (emit i x y) b = absurd b

@@ -11,18 +11,18 @@ use Rattle.words.specs.Filled.{zeros, filled, zeros-length, put-zeros}
 use Rattle.calculus.specs.Term.{Term, records}
 use Rattle.terms.specs.Read.{termAt}
 use Rattle.terms.specs.Encode.{encode}
-use Rattle.terms.proofs.Encode.{encode-length}
+use Rattle.terms.proofs.Encode.{encode-length, term-at}
 use Rattle.zipper.specs.Layout.{Expression}
 use Rattle.zipper.specs.Zipper.{wholeIn, ZipOf, Flat, Last, Loaded, Stored}
 use Rattle.zipper.proofs.Parts.{records-some, part-there}
-use Rattle.zipper.proofs.Whole.{term-there, zip-whole}
+use Rattle.zipper.proofs.Whole.{zip-whole}
 
 -- ---- loading
 
 -- A file that ends with an expression, which is the term there.
 pub last-there : (s : List ℕ) (i : ℕ) (t : Term) → drop (8 * i) s ≡ encode t → Expression t → Last s i × (termAt s i ≡ t)
 last-there s i t e h =
-    let w : termAt s i ≡ t = term-there s i t [] (h .fits) (e ∙ sym (append-nil (encode t))) in
+    let w : termAt s i ≡ t = term-at s i t [] (h .fits) (e ∙ sym (append-nil (encode t))) in
     (record { bytes = rw w e; sound = rw w h }, w)
 
 -- The numbers of such a file.

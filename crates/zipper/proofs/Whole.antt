@@ -21,11 +21,6 @@ use Rattle.zipper.specs.declared.Sought.{Sought}
 use Rattle.zipper.specs.declared.Sought.the-variants.{Value, Stuck, Redex}
 use Rattle.zipper.proofs.Parts.{bounds, together}
 
--- A term whose bytes lie at a record is the term there.
-pub term-there : (s : List ℕ) (i : ℕ) (t : Term) (rest : List ℕ) → Fits t → drop (8 * i) s ≡ encode t ++ rest → termAt s i ≡ t
-unfolding termAt
-term-there s i t rest f e = ap termOf (read-encode-at s i t rest f e)
-
 -- A term that stands at a record ends after its records.
 pub end-there : (s : List ℕ) (i : ℕ) (t : Term) → Stands s i t → endAt s i ≡ i + records t
 unfolding endAt
