@@ -16,4 +16,5 @@ pub mod Strip
 pub mod Placed
 pub mod Image
 pub mod Demand3
+pub mod Correspondence
 pub mod Cases

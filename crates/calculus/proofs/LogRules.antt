@@ -1,9 +1,9 @@
 -- The commands due at the redex and the rewritten run, by the paper's rules. Assumes nothing.
 use mathlib.Core.Bool.{Bool, true, false, cond}
-use mathlib.Core.Path.{_≡_, refl, sym, ap, _∙_}
+use mathlib.Core.Path.{_≡_, refl, sym, ap}
 use Prim.Native.Nat.{ℕ, zero, suc}
 use lib.Dec.{T, leb}
-use Rattle.calculus.specs.Term.{Term, Codebase, ClosedCode, ClosedTerm, Scoped, Defined, isValue, size}
+use Rattle.calculus.specs.Term.{Term, Codebase, ClosedCode, ClosedTerm, isValue, size}
 use Rattle.calculus.specs.Term.Term.{var, fun, con, lam, app, callEvent, emit}
 use Rattle.calculus.specs.Step.{Event, Next, step}
 use Rattle.calculus.specs.Step.Next.{atValue, atStuck, next}
@@ -11,39 +11,46 @@ use Rattle.calculus.specs.Rules.{Context, plug}
 use Rattle.calculus.specs.Rules.Context.{[], applied, argument}
 use Rattle.calculus.specs.Guideline.{Guideline, Safe}
 use Rattle.calculus.specs.Entailment.{entails?}
-use Rattle.calculus.specs.Run.{Outcome, Tick, Result, result, run, ended, onward, limit}
+use Rattle.calculus.specs.Run.{Outcome, Tick, run, ended, onward, limit}
 use Rattle.calculus.specs.Run.Tick.{halt, stop, go}
-use Rattle.calculus.specs.Log.{Conf, State, at, triple, noteCall, addEntry, emitCall, tick, settle, functionSettled, isFull, logMove, logNext, logTick, logged, fresh}
-use Rattle.calculus.specs.LogRules.{Runs, Runs∗}
+use Rattle.calculus.specs.Log.{Conf, State, at, triple, noteCall, addEntry, emitCall, tick, settle, functionSettled, isFull, logNext, logTick, logged, fresh}
+use Rattle.calculus.specs.Trace.{Sequence, last}
+use Rattle.calculus.specs.Trace.Sequence.{alone, then}
+use Rattle.calculus.specs.LogRules.{Runs, LogTraces}
 use Rattle.calculus.specs.LogRules.Runs.{Λcall, Precondition, Log, NoLog, context}
-use Rattle.calculus.specs.LogRules.Runs∗.{none, more}
-use Rattle.calculus.proofs.Lists.{T-true, true-T, false-T}
+use Rattle.calculus.proofs.Lists.{true-T, false-T}
 use Rattle.calculus.proofs.Entailment.{entails-decides}
 use Rattle.calculus.proofs.Rules.{step-reduces}
 use Rattle.calculus.proofs.Scope.{step-closed}
 
 -- ---- any number of steps
 
+-- Any number of steps of Λlog.
+pub data Runs∗ (G : Guideline) (C : Codebase) (κ : Conf) : Conf → Type 0 where
+  none : {κ′ : Conf} → κ′ ≡ κ → Runs∗ G C κ κ′
+  more : {κ′ κ″ : Conf} → Runs∗ G C κ κ′ → Runs G C κ′ κ″ → Runs∗ G C κ κ″
+
 module _ (G : Guideline) (C : Codebase) where
-  then-runs : {κ κ′ κ″ : Conf} → Runs∗ G C κ κ′ → Runs∗ G C κ′ κ″ → Runs∗ G C κ κ″
+  -- Some steps and then some more.
+  pub then-runs : {κ κ′ κ″ : Conf} → Runs∗ G C κ κ′ → Runs∗ G C κ′ κ″ → Runs∗ G C κ κ″
   then-runs r (none e) = rw e r
   then-runs r (more s one) = more (then-runs r s) one
 
-  -- Steps in the function part, and in the argument part of a value.
-  left-runs : (b : Term) {κ κ′ : Conf} → Runs∗ G C κ κ′ → Runs∗ G C (at (app (κ .expr) b) (κ .state)) (at (app (κ′ .expr) b) (κ′ .state))
-  unfolding plug
-  left-runs b (none e) = none (ap (λ (κ : Conf). at (app (κ .expr) b) (κ .state)) e)
-  left-runs b (more r one) = more (left-runs b r) (context (applied [] b) one refl refl)
+  -- Steps in a context.
+  pub context-runs : (E : Context) {κ κ′ : Conf} → Runs∗ G C κ κ′ → Runs∗ G C (at (plug E (κ .expr)) (κ .state)) (at (plug E (κ′ .expr)) (κ′ .state))
+  context-runs E (none e) = none (ap (λ (κ : Conf). at (plug E (κ .expr)) (κ .state)) e)
+  context-runs E (more r one) = more (context-runs E r) (context E one refl refl)
 
-  right-runs : (v : Term) → T (isValue v) → {κ κ′ : Conf} → Runs∗ G C κ κ′ → Runs∗ G C (at (app v (κ .expr)) (κ .state)) (at (app v (κ′ .expr)) (κ′ .state))
-  unfolding plug
-  right-runs v p (none e) = none (ap (λ (κ : Conf). at (app v (κ .expr)) (κ .state)) e)
-  right-runs v p (more r one) = more (right-runs v p r) (context (argument v p []) one refl refl)
+  -- A trace goes on by them.
+  pub trace-runs : {e : Term} {κ : Conf} (τ : Sequence Conf) → LogTraces G C e τ → Runs∗ G C (last τ) κ → (τ′ : Sequence Conf) × LogTraces G C e τ′ × (last τ′ ≡ κ)
+  trace-runs τ t (none h) = (τ, t, sym h)
+  trace-runs {κ = κ} τ t (more r one) = let (τ′, t′, h) = trace-runs τ t r in (then τ′ κ, LogTraces.onward {κ = κ} t′ (rw h one), refl)
 
 -- ---- the commands due
 
 module _ (G : Guideline) (safe : Safe G) (C : Codebase) where
-  emit-runs : (f : ℕ) (a r : Term) (s : State) → Runs G C (at (emit f a r) s) (at r (emitCall G f a s))
+  -- Emitting is going by the rule Log or NoLog.
+  pub emit-runs : (f : ℕ) (a r : Term) (s : State) → Runs G C (at (emit f a r) s) (at r (emitCall G f a s))
   unfolding emitCall
   emit-runs f a r s = on (entails? G (s .history) (triple f a s)) refl
     where
@@ -53,7 +60,7 @@ module _ (G : Guideline) (safe : Safe G) (C : Codebase) where
 
   -- Doing the commands due is going by the rules Precondition, Log and NoLog …
   pub settle-runs : (e : Term) (s : State) → Runs∗ G C (at e s) (settle G e s)
-  unfolding settle
+  unfolding settle plug
   settle-runs (var i) s = none refl
   settle-runs (fun f) s = none refl
   settle-runs (con n) s = none refl
@@ -64,8 +71,8 @@ module _ (G : Guideline) (safe : Safe G) (C : Codebase) where
       on κ r below = onValue (isValue (κ .expr)) refl
         where
           onValue : (x : Bool) → isValue (κ .expr) ≡ x → Runs∗ G C (at (app a b) s) (functionSettled b (λ s′. settle G b s′) x κ)
-          onValue false e = left-runs G C b r
-          onValue true e = then-runs G C (left-runs G C b r) (right-runs G C (κ .expr) (true-T (isValue (κ .expr)) e) (below (κ .state)))
+          onValue false e = context-runs G C (applied [] b) r
+          onValue true e = then-runs G C (context-runs G C (applied [] b) r) (context-runs G C (argument (κ .expr) (true-T (isValue (κ .expr)) e) []) (below (κ .state)))
   settle-runs (callEvent f a r) s = then-runs G C (more (none refl) Precondition) (settle-runs r (noteCall f a s))
   settle-runs (emit f a r) s = then-runs G C (more (none refl) (emit-runs f a r s)) (settle-runs r (emitCall G f a s))
 
@@ -174,7 +181,7 @@ module _ (G : Guideline) (safe : Safe G) (C : Codebase) (closed : ClosedCode C) 
       on (stop o) r below = none refl
       on (go κ′) r below = then-runs G C (r .0) (below κ′ (r .1))
 
-  -- A rewritten run goes by the rules from its first configuration to its last.
-  pub run-runs : (e : Term) → ClosedTerm C e → (n : ℕ) → Runs∗ G C (at e fresh) (logged G C n e .last)
+  -- A rewritten run is a trace by the paper's rules: one that ends on the run's last configuration.
+  pub run-runs : (e : Term) → ClosedTerm C e → (n : ℕ) → (τ : Sequence Conf) × LogTraces G C e τ × (last τ ≡ logged G C n e .last)
   unfolding logged
-  run-runs e h n = then-runs G C (settle-runs G safe C e fresh) (on-reached n (settle G e fresh) (settle-closed G C e fresh h))
+  run-runs e h n = trace-runs G C (alone (at e fresh)) (LogTraces.start refl) (then-runs G C (settle-runs G safe C e fresh) (on-reached n (settle G e fresh) (settle-closed G C e fresh h)))

@@ -68,45 +68,73 @@ plug-moves [] e h = h
 plug-moves (applied E b) e h = refl
 plug-moves (argument v p E) e h = refl
 
--- No value is an application in a context.
-clash : (w : Term) (E : Context) (a b : Term) → T (isValue w) → w ≡ plug E (app a b) → {A : Type 0} → A
+-- What a rule other than Context begins on: an application of two values, or a command.
+abbrev pub Ready : Term → Type 0
+Ready (var i) = ⊥
+Ready (fun f) = ⊥
+Ready (con n) = ⊥
+Ready (lam l b) = ⊥
+Ready (app a b) = T (isValue a) × T (isValue b)
+Ready (callEvent f a r) = Unit {0}
+Ready (emit f a r) = Unit {0}
+
+-- It is no value, …
+ready-moves : (m : Term) → Ready m → isValue m ≡ false
 unfolding isValue
-clash w E a b p h = absurd (false-T (isValue (plug E (app a b))) (plug-moves E (app a b) refl) (rw h at p))
+ready-moves (var i) p = absurd p
+ready-moves (fun f) p = absurd p
+ready-moves (con n) p = absurd p
+ready-moves (lam l b) p = absurd p
+ready-moves (app a b) p = refl
+ready-moves (callEvent f a r) p = refl
+ready-moves (emit f a r) p = refl
+
+-- … and no value has it in a context.
+no-value : (E : Context) (m : Term) → Ready m → T (isValue (plug E m)) → ⊥
+no-value E m p h = false-T (isValue (plug E m)) (plug-moves E m (ready-moves m p)) h
 
 -- Contexts that go on from one value are the same if the rest is.
 argument-path : {v w : Term} (p : T (isValue v)) (q : T (isValue w)) {E F : Context} → v ≡ w → E ≡ F → argument v p E ≡ argument w q F
 argument-path p q h k = λ i. argument (h i) (isProp→PathP (λ j. T (isValue (h j))) (λ j. T-prop (isValue (h j))) p q i) (k i)
 
+-- An expression has what a rule begins on in a context in one way at most.
+pub ready-unique : (E F : Context) (m m′ : Term) → Ready m → Ready m′ → plug E m ≡ plug F m′ → (E ≡ F) × (m ≡ m′)
+unfolding plug
+ready-unique [] [] m m′ p q h = (refl, h)
+ready-unique [] (applied F b) m m′ p q h = absurd (no-value F m′ q ((rw h at p) .0))
+ready-unique [] (argument w s F) m m′ p q h = absurd (no-value F m′ q ((rw h at p) .1))
+ready-unique (applied E b) [] m m′ p q h = absurd (no-value E m p ((rw (sym h) at q) .0))
+ready-unique (applied E b) (applied F b′) m m′ p q h =
+    let t : plug E m ≡ plug F m′ = cc in
+    let u : b ≡ b′ = cc in
+    let (x, y) = ready-unique E F m m′ p q t in
+    (ap₂ applied x u, y)
+ready-unique (applied E b) (argument w s F) m m′ p q h = let t : w ≡ plug E m = cc in absurd (no-value E m p (rw t at s))
+ready-unique (argument w s E) [] m m′ p q h = absurd (no-value E m p ((rw (sym h) at q) .1))
+ready-unique (argument w s E) (applied F b) m m′ p q h = let t : w ≡ plug F m′ = cc in absurd (no-value F m′ q (rw t at s))
+ready-unique (argument w s E) (argument w′ s′ F) m m′ p q h =
+    let t : plug E m ≡ plug F m′ = cc in
+    let u : w ≡ w′ = cc in
+    let (x, y) = ready-unique E F m m′ p q t in
+    (argument-path s s′ u x, y)
+
 -- An expression is a redex of two values in a context in one way at most.
 pub redex-unique : (E E′ : Context) (a v a′ v′ : Term) → T (isValue a) → T (isValue v) → T (isValue a′) → T (isValue v′) → plug E (app a v) ≡ plug E′ (app a′ v′) → (E ≡ E′) × (a ≡ a′) × (v ≡ v′)
-unfolding plug
-redex-unique [] [] a v a′ v′ p q p′ q′ h = (refl, cc, cc)
-redex-unique [] (applied E′ b) a v a′ v′ p q p′ q′ h = let t : a ≡ plug E′ (app a′ v′) = cc in clash a E′ a′ v′ p t
-redex-unique [] (argument w s E′) a v a′ v′ p q p′ q′ h = let t : v ≡ plug E′ (app a′ v′) = cc in clash v E′ a′ v′ q t
-redex-unique (applied E b) [] a v a′ v′ p q p′ q′ h = let t : a′ ≡ plug E (app a v) = cc in clash a′ E a v p′ t
-redex-unique (applied E b) (applied E′ b′) a v a′ v′ p q p′ q′ h =
-    let t : plug E (app a v) ≡ plug E′ (app a′ v′) = cc in
-    let u : b ≡ b′ = cc in
-    let (x, y, z) = redex-unique E E′ a v a′ v′ p q p′ q′ t in
-    (ap₂ applied x u, y, z)
-redex-unique (applied E b) (argument w s E′) a v a′ v′ p q p′ q′ h = let t : w ≡ plug E (app a v) = cc in clash w E a v s t
-redex-unique (argument w s E) [] a v a′ v′ p q p′ q′ h = let t : v′ ≡ plug E (app a v) = cc in clash v′ E a v q′ t
-redex-unique (argument w s E) (applied E′ b) a v a′ v′ p q p′ q′ h = let t : w ≡ plug E′ (app a′ v′) = cc in clash w E′ a′ v′ s t
-redex-unique (argument w s E) (argument w′ s′ E′) a v a′ v′ p q p′ q′ h =
-    let t : plug E (app a v) ≡ plug E′ (app a′ v′) = cc in
-    let u : w ≡ w′ = cc in
-    let (x, y, z) = redex-unique E E′ a v a′ v′ p q p′ q′ t in
-    (argument-path s s′ u x, y, z)
+redex-unique E E′ a v a′ v′ p q p′ q′ h =
+    let (x, y) = ready-unique E E′ (app a v) (app a′ v′) (p, q) (p′, q′) h in
+    let u : a ≡ a′ = cc in
+    let w : v ≡ v′ = cc in
+    (x, u, w)
 
--- ---- the rules are deterministic
+-- ---- a step taken apart
 
 -- The rules at a redex of two values, as a function: a call of f on v, whose body is given.
-abbrev contractCall : ℕ → Term → Option Term → Next
+abbrev pub contractCall : ℕ → Term → Option Term → Next
 contractCall f v none = atStuck
 contractCall f v (some b) = next (calls f v) (substitute 0 v b)
 
 -- The same of any function part.
-abbrev contract : Codebase → Term → Term → Next
+abbrev pub contract : Codebase → Term → Term → Next
 contract C (var i) v = atStuck
 contract C (fun f) v = contractCall f v (C f)
 contract C (con n) v = atStuck
@@ -115,61 +143,88 @@ contract C (app a b) v = atStuck
 contract C (callEvent f a b) v = atStuck
 contract C (emit f a b) v = atStuck
 
--- A step by the rules, taken apart: the context, the redex and what the redex becomes.
-record Apart (C : Codebase) (e : Term) (n : ℕ) (ev : Event) (e′ : Term) (n′ : ℕ) : Type 0 where
-  around : Context
-  function : Term
-  value : Term
-  result : Term
-  isFunction : T (isValue function)
-  isArgument : T (isValue value)
-  before : e ≡ plug around (app function value)
-  after : e′ ≡ plug around result
-  contracts : contract C function value ≡ next ev result
-  time : n′ ≡ suc n
+-- What the rules other than Context make of what they begin on: the rules of Λcall contract a redex, those of Λlog take a command away.
+pub data Becomes (C : Codebase) : Term → Event → Term → Type 0 where
+  contracted : {a v r : Term} {ev : Event} → T (isValue a) → T (isValue v) → contract C a v ≡ next ev r → Becomes C (app a v) ev r
+  noted : {f : ℕ} {v r : Term} → Becomes C (callEvent f v r) quiet r
+  emitted : {f : ℕ} {v r : Term} → Becomes C (emit f v r) quiet r
+
+-- They begin on it.
+pub becomes-ready : {C : Codebase} {m r : Term} {ev : Event} → Becomes C m ev r → Ready m
+becomes-ready (contracted p q h) = (p, q)
+becomes-ready noted = tt
+becomes-ready emitted = tt
+
+-- They make one thing of it.
+pub becomes-unique : {C : Codebase} {m r r′ : Term} {ev ev′ : Event} → Becomes C m ev r → Becomes C m ev′ r′ → (ev ≡ ev′) × (r ≡ r′)
+becomes-unique (contracted p q h) (contracted p′ q′ h′) = (cc, cc)
+becomes-unique noted noted = (refl, refl)
+becomes-unique emitted emitted = (refl, refl)
+
+-- A step by the rules, taken apart: the context, what stands in its hole and what that becomes.
+pub record Apart (C : Codebase) (e : Term) (ev : Event) (e′ : Term) : Type 0 where
+  pub around : Context
+  pub hole : Term
+  pub result : Term
+  pub before : e ≡ plug around hole
+  pub after : e′ ≡ plug around result
+  pub becomes : Becomes C hole ev result
 
 -- A context in a context.
-within : Context → Context → Context
+pub within : Context → Context → Context
 within [] F = F
 within (applied E b) F = applied (within E F) b
 within (argument v p E) F = argument v p (within E F)
 
 -- What it does to an expression.
-within-plug : (E F : Context) (e : Term) → plug E (plug F e) ≡ plug (within E F) e
+pub within-plug : (E F : Context) (e : Term) → plug E (plug F e) ≡ plug (within E F) e
 unfolding plug within
 within-plug [] F e = refl
 within-plug (applied E b) F e = ap (λ x. app x b) (within-plug E F e)
 within-plug (argument v p E) F e = ap (app v) (within-plug E F e)
 
--- Every step by the rules comes apart so.
-apart : {C : Codebase} {e e′ : Term} {ev : Event} {n n′ : ℕ} → Reduces C e n ev e′ n′ → Apart C e n ev e′ n′
-unfolding plug isValue
-apart (β {l = l} {e = e} {v = v} {e′ = e′} p h) =
-    record { around = []; function = lam l e; value = v; result = e′; isFunction = tt; isArgument = p; before = refl; after = refl; contracts = ap (next quiet) (sym h); time = refl }
-apart (βCall {f = f} {e = e} {v = v} {e′ = e′} p c h) =
-    record { around = []; function = fun f; value = v; result = e′; isFunction = tt; isArgument = p; before = refl; after = refl; contracts = ap (contractCall f v) c ∙ ap (next (calls f v)) (sym h); time = refl }
-apart (context E r h h′) =
-    let d = apart r in
+-- A step with no context around it comes apart so, …
+pub apart-here : {C : Codebase} {m r : Term} {ev : Event} → Becomes C m ev r → Apart C m ev r
+unfolding plug
+apart-here {m = m} {r = r} h = record { around = []; hole = m; result = r; before = refl; after = refl; becomes = h }
+
+-- … in a context too, …
+pub apart-within : {C : Codebase} {e e′ a a′ : Term} {ev : Event} (E : Context) → a ≡ plug E e → a′ ≡ plug E e′ → Apart C e ev e′ → Apart C a ev a′
+apart-within E h h′ d =
     record {
       around = within E (d .around);
-      function = d .function;
-      value = d .value;
+      hole = d .hole;
       result = d .result;
-      isFunction = d .isFunction;
-      isArgument = d .isArgument;
-      before = h ∙ ap (plug E) (d .before) ∙ within-plug E (d .around) (app (d .function) (d .value));
+      before = h ∙ ap (plug E) (d .before) ∙ within-plug E (d .around) (d .hole);
       after = h′ ∙ ap (plug E) (d .after) ∙ within-plug E (d .around) (d .result);
-      contracts = d .contracts;
-      time = d .time;
+      becomes = d .becomes;
     }
+
+-- … and so every step of Λcall.
+pub apart : {C : Codebase} {e e′ : Term} {ev : Event} {n n′ : ℕ} → Reduces C e n ev e′ n′ → Apart C e ev e′
+unfolding isValue
+apart (β p h) = apart-here (contracted tt p (ap (next quiet) (sym h)))
+apart (βCall {f = f} {v = v} p c h) = apart-here (contracted tt p (ap (contractCall f v) c ∙ ap (next (calls f v)) (sym h)))
+apart (context E r h h′) = apart-within E h h′ (apart r)
+
+-- An expression with something in a context that a rule begins on has its step there.
+pub apart-hole : {C : Codebase} {e e′ : Term} {ev : Event} (E : Context) (m : Term) → Ready m → e ≡ plug E m → Apart C e ev e′ → (r : Term) × Becomes C m ev r × (e′ ≡ plug E r)
+apart-hole E m p h d =
+    let (x, y) = ready-unique E (d .around) m (d .hole) p (becomes-ready (d .becomes)) (sym h ∙ d .before) in
+    (d .result, rw y (d .becomes), rw x (d .after))
+
+-- ---- the rules are deterministic
+
+-- A step costs one unit of time.
+pub reduces-time : {C : Codebase} {e e′ : Term} {ev : Event} {n n′ : ℕ} → Reduces C e n ev e′ n′ → n′ ≡ suc n
+reduces-time (β p h) = refl
+reduces-time (βCall p c h) = refl
+reduces-time (context E r h h′) = reduces-time r
 
 -- The rules are deterministic.
 pub deterministic : (C : Codebase) (e e′ e″ : Term) (ev ev′ : Event) (n n′ n″ : ℕ) → Reduces C e n ev e′ n′ → Reduces C e n ev′ e″ n″ → (ev ≡ ev′) × (e′ ≡ e″) × (n′ ≡ n″)
 deterministic C e e′ e″ ev ev′ n n′ n″ r r′ =
     let c = apart r in
-    let d = apart r′ in
-    let (x, y, z) = redex-unique (c .around) (d .around) (c .function) (c .value) (d .function) (d .value) (c .isFunction) (c .isArgument) (d .isFunction) (d .isArgument) (sym (c .before) ∙ d .before) in
-    let k : next ev (c .result) ≡ next ev′ (d .result) = sym (c .contracts) ∙ ap₂ (contract C) y z ∙ d .contracts in
-    let u : ev ≡ ev′ = cc in
-    let w : c .result ≡ d .result = cc in
-    (u, c .after ∙ ap₂ plug x w ∙ sym (d .after), c .time ∙ sym (d .time))
+    let (x, h, k) = apart-hole (c .around) (c .hole) (becomes-ready (c .becomes)) (c .before) (apart r′) in
+    let (u, w) = becomes-unique (c .becomes) h in
+    (u, c .after ∙ ap (plug (c .around)) w ∙ sym k, reduces-time r ∙ sym (reduces-time r′))

@@ -13,5 +13,6 @@ pub mod Run
 pub mod Trace
 pub mod Log
 pub mod LogRules
+pub mod Correspondence
 pub mod Claim
 pub mod Cases
