@@ -1,28 +1,38 @@
-// Derives and checks guidelines of 64 and 65 values. Each line has the facts, the number and the place of both entries, and the byte of
-// the derived table that has p0(62, 63).
+// Derives and checks guidelines of 64 and 65 values, then derives the rehearsed cases (h) and (i).
+//
+// Each of the first three lines has the facts, the number and the place of both entries, and the byte of the derived table that has
+// p0(62, 63). The line of a case has the number and the place, two bytes of the table, and how many of its bytes are not zero:
+// - (h) bytes 512 and 528. Bit 2 of the first is p1(1, 3), which holds; bit 0 of the second is p1(3, 1), which does not.
+// - (i) bytes 0 and 8. Bit 0 of the first is p0(1, 1), the only bit that is set: constant 7 stands in no fact and satisfies no p0.
 use refusal::Verdict;
-ghost use Prim.Native.Nat.{_*_, _≤_};
+ghost use Prim.Native.Nat.{_*_, _≤_, _<_};
 ghost use lib.ListN.{length};
 
-// Writes the fact p0 of two constants at a record that is within the buffer.
-fn put(b: &mut [u8; 528], i: usize, first: u32, second: u32) {
+// Writes a record that is within the buffer: its first four bytes and two numbers.
+fn put(b: &mut [u8; 528], i: usize, head: [u8; 4], first: u32, second: u32) {
     if i < 33 {
-        b[16 * i] = 1;
-        b[16 * i + 2] = 3;
-        b[16 * i + 3] = 3;
+        b[16 * i] = head[0];
+        b[16 * i + 1] = head[1];
+        b[16 * i + 2] = head[2];
+        b[16 * i + 3] = head[3];
         words::put_u32(b, 16 * i + 4, first);
         words::put_u32(b, 16 * i + 8, second);
     }
+}
+
+// The fact p0 of two constants.
+fn fact(b: &mut [u8; 528], i: usize, first: u32, second: u32) {
+    put(b, i, [1, 0, 3, 3], first, second);
 }
 
 // 32 facts of two new constants each, then one of constant 63 and the given one.
 fn build(b: &mut [u8; 528], last: u32) {
     let mut i = 0;
     while i < 32 {
-        put(b, i as usize, 2 * i, 2 * i + 1);
+        fact(b, i as usize, 2 * i, 2 * i + 1);
         i += 1;
     }
-    put(b, 32, 63, last);
+    fact(b, 32, 63, last);
 }
 
 fn wide(x: u8) -> u32 {
@@ -69,6 +79,62 @@ fn edge(n: u32, last: u32)
     run_array(&b, n);
 }
 
+// How many bytes are not zero.
+fn count(table: &[u8; 8192]) -> u32 {
+    let mut n = 0;
+    let mut i = 0;
+    while i < 8192 {
+        if table[i] != 0 {
+            n += 1;
+        }
+        i += 1;
+    }
+    n
+}
+
+// Derives the first n records, which the buffer has.
+fn derive(b: &[u8], n: usize, table: &mut [u8; 8192])
+    requires { ⌜ 16 * n ≤ length (now b) ⌝ }
+{
+    let end = 16 * n;
+    print_verdict(records::derive(&b[..end], table));
+}
+
+// The line of a case of n records. The table is full before, so that each zero in it has been written.
+fn case(b: &[u8; 528], n: usize, first: usize, second: usize)
+    requires { ⌜ n ≤ 33 ⌝ }
+    requires { ⌜ first < 8192 ⌝ }
+    requires { ⌜ second < 8192 ⌝ }
+{
+    let mut table = [255u8; 8192];
+    derive(b, n, &mut table);
+    print(wide(table[first]), b" ");
+    print(wide(table[second]), b" ");
+    print(count(&table), b"\n");
+}
+
+// The bytes of `caseH`: p0(1, 2), p0(2, 3); p1(x, y) where p0(x, y); p1(x, z) where p0(x, y) and p1(y, z).
+fn case_h() {
+    let mut b = [0u8; 528];
+    fact(&mut b, 0, 1, 2);
+    fact(&mut b, 1, 2, 3);
+    put(&mut b, 2, [2, 1, 0, 1], 0, 0);
+    put(&mut b, 3, [3, 0, 0, 1], 0, 0);
+    put(&mut b, 4, [2, 1, 0, 2], 0, 0);
+    put(&mut b, 5, [3, 0, 0, 1], 0, 0);
+    put(&mut b, 6, [3, 1, 1, 2], 0, 0);
+    case(&b, 7, 512, 528);
+}
+
+// The bytes of `caseI`: p0(1, 1); function 1 is logged where p0 holds of its argument twice.
+fn case_i() {
+    let mut b = [0u8; 528];
+    fact(&mut b, 0, 1, 1);
+    put(&mut b, 1, [4, 0, 0, 0], 1, 0);
+    put(&mut b, 2, [7, 0, 0, 0], 0, 0);
+    case(&b, 3, 0, 8);
+}
+
 fn main() {
     // 64 values.
     edge(32, 0);
@@ -76,4 +142,6 @@ fn main() {
     edge(33, 0);
     // A 65th in the last fact.
     edge(33, 64);
+    case_h();
+    case_i();
 }

@@ -14,20 +14,20 @@ abbrev μ-loop : tie.MeasureT-loop
 loop-holds : tie.Need-loop-holds Inv-loop μ-loop
 loop-holds c = tt
 
-cast-put : tie.Need-cast-put Inv-loop μ-loop
-cast-put c = omega arith
+cast-fact : tie.Need-cast-fact Inv-loop μ-loop
+cast-fact c = omega arith
 
-mul-put : tie.Need-mul-put Inv-loop μ-loop
-mul-put c = omega arith
+mul-fact : tie.Need-mul-fact Inv-loop μ-loop
+mul-fact c = omega arith
 
-mul-put-2 : tie.Need-mul-put-2 Inv-loop μ-loop
-mul-put-2 c = omega arith
+mul-fact-2 : tie.Need-mul-fact-2 Inv-loop μ-loop
+mul-fact-2 c = omega arith
 
-add-put : tie.Need-add-put Inv-loop μ-loop
-add-put c = omega arith
+add-fact : tie.Need-add-fact Inv-loop μ-loop
+add-fact c = omega arith
 
-put-requires : tie.Need-put-requires Inv-loop μ-loop
-put-requires c κs = search needs
+fact-requires : tie.Need-fact-requires Inv-loop μ-loop
+fact-requires c κs = search needs
 
 add-i : tie.Need-add-i Inv-loop μ-loop
 add-i c = omega arith
@@ -38,8 +38,8 @@ loop-less c = omega arith
 loop-again : tie.Need-loop-again Inv-loop μ-loop
 loop-again c = tt
 
-put-requires-2 : tie.Need-put-requires-2 Inv-loop μ-loop
-put-requires-2 c κs = search needs
+fact-requires-2 : tie.Need-fact-requires-2 Inv-loop μ-loop
+fact-requires-2 c κs = search needs
 
 returns : tie.Need-returns Inv-loop μ-loop
 returns c = search needs
@@ -51,13 +51,13 @@ build-spec =
     Inv-loop
     μ-loop
     loop-holds
-    cast-put
-    mul-put
-    mul-put-2
-    add-put
-    put-requires
+    cast-fact
+    mul-fact
+    mul-fact-2
+    add-fact
+    fact-requires
     add-i
     loop-less
     loop-again
-    put-requires-2
+    fact-requires-2
     returns)
