@@ -1,12 +1,10 @@
 -- The end of a plain run in its buffers, and the whole entry. Assumes nothing.
-use mathlib.Core.List.{List, [], _++_, append-assoc}
-use mathlib.Core.Path.{_≡_, sym, ap, _∙_}
-use Prim.Native.Nat.{ℕ, _-_, _≤_}
-use native.Mathlib.Omega.{arith}
-use lib.ListN.{length, take, drop, length-take, drop-of-length-le}
-use lib.Seq.{drop-length}
+use mathlib.Core.List.{List, [], _++_}
+use mathlib.Core.Path.{_≡_, ap, _∙_}
+use Prim.Native.Nat.{ℕ}
+use lib.ListN.{length, take, drop}
 use borrow.Author.Tests.{eq-eqb, ne-eqb}
-use Rattle.words.specs.Filled.{zeros, filled}
+use Rattle.words.specs.Filled.{filled, filled-exact, filled-rest}
 use Rattle.calculus.specs.Term.{Term}
 use Rattle.calculus.specs.Run.{Result, Conf, plainRun}
 use Rattle.terms.specs.Encode.{encode}
@@ -19,21 +17,6 @@ use Rattle.plain.specs.Answer.{plainDue, After, after, ranAfter, plainOf
 use Rattle.plain.specs.declared.Rest.{Rest}
 use Rattle.plain.specs.declared.PlainRun.{PlainRun}
 use Rattle.plain.specs.declared.PlainRun.the-variants.{Refused, Ran}
-
--- A buffer of just that size has nothing past it.
-filled-exact : (n : ℕ) (xs a b : List ℕ) → length a ≡ n → length b ≡ n → filled n xs a ≡ filled n xs b
-unfolding filled
-filled-exact n xs a b p q =
-    let d : drop n a ≡ drop n b = ap (λ (x : ℕ). drop x a) (sym p) ∙ drop-length a ∙ sym (drop-length b) ∙ ap (λ (x : ℕ). drop x b) q in
-    ap (λ (l : List ℕ). xs ++ (zeros (n - length xs) ++ l)) d
-
--- What is past the size comes back behind a filling of the part inside it.
-filled-rest : (n : ℕ) (xs old : List ℕ) → filled n xs (take n old) ++ drop n old ≡ filled n xs old
-unfolding filled
-filled-rest n xs old =
-    let l : length (take n old) ≤ n = simp length-take (omega arith) in
-    let d : drop n (take n old) ≡ [] = drop-of-length-le (take n old) l in
-    ap (λ (y : List ℕ). (xs ++ (zeros (n - length xs) ++ y)) ++ drop n old) d ∙ simp (append-assoc)
 
 module _ (R : Result Conf) (x : Rest) (e₁ : List ℕ) (h : Rested R x e₁) where
   -- What the store asks.

@@ -1,18 +1,16 @@
 -- Refusals before a plain run: what is due, and what holds where nothing is. Assumes nothing.
 use mathlib.Core.Bool.{Bool, true, false, _||_}
 use mathlib.Core.List.{List}
-use mathlib.Core.Option.{Option, none, some}
 use mathlib.Core.Path.{_≡_, refl, sym, ap, _∙_}
 use Prim.Native.Nat.{ℕ, _<_, _≤_}
 use native.Mathlib.Omega.{arith}
 use lib.Dec.{ltb}
 use borrow.Author.Tests.{lt-ltb, le-ltb, ltb-false}
-use Rattle.refusal.specs.Refusal.{verdict, accepted, dueIf, refuseIf}
+use Rattle.refusal.specs.Refusal.{verdict, accepted, dueIf, refuseIf, refuse-zero, not-due}
 use Rattle.refusal.specs.declared.Verdict.{Verdict}
-use Rattle.script.specs.Check.{due1, due2, due3, due4, due5, due6, due7, scriptVerdict}
-use Rattle.script.specs.declared.Purpose.{Purpose}
+use Rattle.script.specs.Check.{scriptVerdict}
 use Rattle.script.specs.declared.Purpose.the-variants as purposes
-use Rattle.script.proofs.Accepted.{none-accepted}
+use Rattle.script.proofs.Accepted.{script-zero}
 use Rattle.plain.specs.Answer.{bufferSize, plainDue}
 
 -- ---- what is due
@@ -41,30 +39,7 @@ module _ (s : List ℕ) (budget e c : ℕ) where
 
 -- ---- nothing is due
 
--- A verdict of number 0 tests none that is due.
-refuse-zero : (k : ℕ) → 0 < k → (d : Option ℕ) (v : Verdict) → refuseIf k d v .number ≡ 0 → (d ≡ none) × (v .number ≡ 0)
-unfolding refuseIf
-refuse-zero k h none v e = (refl, e)
-refuse-zero k h (some p) v e = absurd (omega arith)
-
--- A script with number 0 is accepted.
-pub script-zero : (u : Purpose) (s : List ℕ) → scriptVerdict u s .number ≡ 0 → scriptVerdict u s ≡ accepted
-unfolding scriptVerdict
-script-zero u s e =
-    let p1 = refuse-zero 1 (omega arith) (due1 u s) _ e in
-    let p2 = refuse-zero 2 (omega arith) (due2 s) _ (p1 .1) in
-    let p3 = refuse-zero 3 (omega arith) (due3 s) _ (p2 .1) in
-    let p4 = refuse-zero 4 (omega arith) (due4 s) _ (p3 .1) in
-    let p5 = refuse-zero 5 (omega arith) (due5 s) _ (p4 .1) in
-    let p6 = refuse-zero 6 (omega arith) (due6 s) _ (p5 .1) in
-    let p7 = refuse-zero 7 (omega arith) (due7 u s) _ (p6 .1) in
-    none-accepted u s record { one = p1 .0; two = p2 .0; three = p3 .0; four = p4 .0; five = p5 .0; six = p6 .0; seven = p7 .0 }
-
-not-due : (b : Bool) → dueIf b ≡ none → b ≡ false
-not-due true e = absurd (let z : _≡_ {A = ℕ} 0 1 = cc in omega arith)
-not-due false e = refl
-
-neither : (a b : Bool) → a || b ≡ false → (a ≡ false) × (b ≡ false)
+pub neither : (a b : Bool) → a || b ≡ false → (a ≡ false) × (b ≡ false)
 neither true b e = absurd (let z : _≡_ {A = ℕ} 0 1 = cc in omega arith)
 neither false b e = (refl, e)
 

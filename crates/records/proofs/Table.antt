@@ -3,11 +3,9 @@ use mathlib.Core.Bool.{true}
 use mathlib.Core.List.{List, List·Memᴰ}
 use mathlib.Core.Logic.{_⊎_, inl, inr, _↔_}
 use mathlib.Core.Path.{_≡_, ap, _∙_}
-use Prim.Native.Nat.{ℕ, _+_, _*_, _/_, _%_, _<_, _≤_}
-use native.Mathlib.Omega.{arith}
-use lib.ListN.{length, getD}
+use Prim.Native.Nat.{ℕ, _<_, _≤_}
+use lib.ListN.{length}
 use Rattle.words.specs.Bytes.{AllBytes}
-use Rattle.words.specs.Filled.{filled-at}
 use Rattle.calculus.specs.Term.{View}
 use Rattle.calculus.specs.Least.{Least}
 use Rattle.calculus.specs.Derive.{values}
@@ -17,20 +15,16 @@ use Rattle.guideline.specs.Read.{guidelineOf}
 use Rattle.guideline.specs.Check.{fileVerdict}
 use Rattle.guideline.specs.Values.{valueAt}
 use Rattle.guideline.proofs.Accepted.{accepted-safe}
-use Rattle.bits.specs.Bits.{bitOf}
 use Rattle.table.specs.Table.{tableBit}
 use Rattle.predicates.specs.Table.{inTable, tableOf}
-use Rattle.predicates.proofs.Table.{table-bit, table-least}
+use Rattle.predicates.proofs.Table.{table-bit, filled-bit, table-least}
 use Rattle.records.specs.Entries.{Derived, deriveOf}
 use Rattle.records.proofs.Laws.{derive-leaves}
 
 module _ (g t : List ℕ) (l : 8192 ≤ length t) (e : fileVerdict g ≡ accepted) (p a b : ℕ) (lp : p < 16) (la : a < 64) (lb : b < 64) where
   -- The bits that deriving leaves are those of the guideline's table, …
   derived-same : tableBit (deriveOf g t .table) p a b ≡ tableBit (tableOf (guidelineOf g)) p a b
-  unfolding tableBit
-  derived-same =
-      let i = 512 * p + 8 * a + b / 8 in
-      ap (λ (d : Derived). bitOf (getD (d .table) i 0) (b % 8)) (derive-leaves g t l e) ∙ ap (λ (x : ℕ). bitOf x (b % 8)) (filled-at 8192 i (tableOf (guidelineOf g)) t (omega arith))
+  derived-same = ap (λ (d : Derived). tableBit (d .table) p a b) (derive-leaves g t l e) ∙ filled-bit (guidelineOf g) t p a b lp la lb
 
   pub derived-bit : tableBit (deriveOf g t .table) p a b ≡ inTable (guidelineOf g) p a b
   derived-bit = derived-same ∙ table-bit (guidelineOf g) p a b lp la lb

@@ -5,7 +5,7 @@ use mathlib.Core.Path.{_≡_, refl, ap}
 use native.Mathlib.Omega.{arith}
 use Prim.Native.Nat.{ℕ, _<_, _≤_}
 use lib.Dec.{eqb, ltb}
-use borrow.Author.Tests.{lt-ltb, le-ltb}
+use borrow.Author.Tests.{eq-eqb, ne-eqb, eqb-true, eqb-false, lt-ltb, le-ltb}
 use Rattle.refusal.specs.declared.Verdict.{Verdict}
 
 abbrev pub verdict : ℕ → ℕ → Verdict
@@ -61,3 +61,42 @@ pub accepted-parts : (k : ℕ) → 0 < k → (d : Option ℕ) (v : Verdict) → 
 unfolding refuseIf
 accepted-parts k h none v e = (refl, e)
 accepted-parts k h (some p) v e = absurd (let z : k ≡ 0 = ap (λ (w : Verdict). w .number) e in omega arith)
+
+-- A verdict with number 0 accepts.
+abbrev pub Settles : Verdict → Type 0
+Settles v = v .number ≡ 0 → v ≡ accepted
+
+-- One number more in the order of tests.
+pub refuse-settles : (k : ℕ) → 0 < k → (d : Option ℕ) (v : Verdict) → Settles v → Settles (refuseIf k d v)
+unfolding refuseIf
+refuse-settles k l none v h = h
+refuse-settles k l (some p) v h = λ z. absurd (omega arith)
+
+-- Where the verdict's number is 0, that number is not due.
+pub refuse-zero : (k : ℕ) → 0 < k → (d : Option ℕ) (v : Verdict) → refuseIf k d v .number ≡ 0 → (d ≡ none) × (v .number ≡ 0)
+unfolding refuseIf
+refuse-zero k h none v e = (refl, e)
+refuse-zero k h (some p) v e = absurd (omega arith)
+
+pub not-due : (b : Bool) → dueIf b ≡ none → b ≡ false
+not-due true e = absurd (let z : _≡_ {A = ℕ} 0 1 = cc in omega arith)
+not-due false e = refl
+
+-- Two verdicts in order: the first, which is v, refuses, or the second decides.
+module _ {v : Verdict} (a w : Verdict) (e : v ≡ a) where
+  pub then-refused : (v .number ≡ 0 → ⊥) → v ≡ andThen a w
+  unfolding andThen
+  then-refused n = rw (← e) (rw (ne-eqb (v .number) 0 n))
+
+  pub then-passed : v .number ≡ 0 → w ≡ andThen a w
+  unfolding andThen
+  then-passed z = rw (← e) (rw (eq-eqb (v .number) 0 z))
+
+-- Neither refuses.
+pub then-zero : (v w : Verdict) → andThen v w .number ≡ 0 → (v .number ≡ 0) × (w .number ≡ 0)
+unfolding andThen
+then-zero v w e = on (eqb (v .number) 0) refl e
+  where
+    on : (b : Bool) → eqb (v .number) 0 ≡ b → (cond b w v) .number ≡ 0 → (v .number ≡ 0) × (w .number ≡ 0)
+    on true q z = (eqb-true (v .number) 0 q, z)
+    on false q z = absurd (eqb-false (v .number) 0 q z)

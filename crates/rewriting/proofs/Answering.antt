@@ -1,7 +1,7 @@
 -- The ways out of rewriting. Assumes nothing.
 use mathlib.Core.Bool.{true, false}
 use mathlib.Core.List.{List}
-use mathlib.Core.Path.{_≡_, sym, ap, _∙_}
+use mathlib.Core.Path.{_≡_, refl, sym, ap, _∙_}
 use Prim.Native.Nat.{ℕ, _*_, _<_, _≤_}
 use native.Mathlib.Omega.{arith}
 use lib.Dec.{ltb}
@@ -9,7 +9,7 @@ use lib.ListN.{length}
 use borrow.Author.Tests.{ne-eqb, lt-ltb, le-ltb}
 use Rattle.words.specs.Put.{put}
 use Rattle.terms.specs.Record.{count}
-use Rattle.refusal.specs.Refusal.{verdict, accepted, refuseIf, dueIf, refuse-due, andThen}
+use Rattle.refusal.specs.Refusal.{verdict, accepted, refuseIf, dueIf, refuse-due, andThen, then-refused, then-passed}
 use Rattle.refusal.specs.declared.Verdict.{Verdict}
 use Rattle.script.specs.File.{fileOf}
 use Rattle.script.specs.Check.{definitionCount, scriptVerdict}
@@ -19,17 +19,9 @@ use Rattle.rewriting.specs.Answer.{writtenFile, rewritingVerdict, after,
 use Rattle.rewriting.specs.declared.Rewritten.{Rewritten}
 use Rattle.rewriting.proofs.Passing.{ScriptPassed, Passed}
 
--- ---- verdicts in their order
-
--- The first refuses.
-next-refused : (v w : Verdict) → (v .number ≡ 0 → ⊥) → andThen v w ≡ v
-unfolding andThen
-next-refused v w n = rw (ne-eqb (v .number) 0 n)
-
--- The first accepts: the second decides.
+-- Where the first verdict accepts, the second decides.
 next-passed : (v w : Verdict) → v ≡ accepted → andThen v w ≡ w
-unfolding andThen
-next-passed v w e = rw e
+next-passed v w e = sym (then-passed v w refl (ap (λ (x : Verdict). x .number) e))
 
 -- ---- the answers
 
@@ -46,7 +38,7 @@ module _ (s g o : List ℕ) where
   -- The script is refused.
   pub script-refused : {r : Rewritten} {v : Verdict} → v ≡ scriptVerdict Rewriting s → (v .number ≡ 0 → ⊥) → r ≡ refusedBy v → after o r ≡ rewriting s g o
   unfolding rewritingVerdict
-  script-refused {v = v} e n q = refused-by v (rw (← e) (next-refused v _ n)) n q
+  script-refused {v = v} e n q = refused-by v (rw (← e) (sym (then-refused v _ refl n))) n q
 
   -- The guideline is refused.
   pub guideline-refused : {r : Rewritten} {d : ℕ} {w : Verdict} → ScriptPassed s → d ≡ definitionCount (fileOf s) → w ≡ guidelineVerdict d g → (w .number ≡ 0 → ⊥) → r ≡ refusedBy w
@@ -54,7 +46,7 @@ module _ (s g o : List ℕ) where
   unfolding rewritingVerdict
   guideline-refused {w = w} p k e n q =
       let e′ : w ≡ guidelineVerdict (definitionCount (fileOf s)) g = rw k at e in
-      refused-by w (next-passed (scriptVerdict Rewriting s) _ (p .verdict) ∙ rw (← e′) (next-refused w _ n)) n q
+      refused-by w (next-passed (scriptVerdict Rewriting s) _ (p .verdict) ∙ rw (← e′) (sym (then-refused w _ refl n))) n q
 
   module _ (p : Passed s g) where
     -- Where both are accepted, number 21 is tested.

@@ -13,26 +13,18 @@ use Rattle.words.specs.Put.{put, put-head, put-length}
 use Rattle.calculus.specs.Term.{Program}
 use Rattle.calculus.specs.Rewriting.{rewrite}
 use Rattle.terms.specs.Record.{count}
-use Rattle.refusal.specs.Refusal.{accepted, refuseIf, dueIf, andThen}
+use Rattle.refusal.specs.Refusal.{accepted, refuseIf, dueIf, then-zero}
 use Rattle.refusal.specs.declared.Verdict.{Verdict}
 use Rattle.script.specs.File.{fileOf}
 use Rattle.script.specs.Check.{definitionCount, scriptVerdict}
 use Rattle.script.specs.declared.Purpose.the-variants.{Rewriting}
-use Rattle.script.proofs.Accepted.{program-length}
+use Rattle.script.proofs.Accepted.{script-zero, program-length}
 use Rattle.guideline.specs.Read.{guidelineOf}
 use Rattle.guideline.specs.Check.{guidelineVerdict}
+use Rattle.guideline.proofs.Due.{guideline-zero}
 use Rattle.rewriting.specs.Answer.{writtenFile, rewritingVerdict, After, after, refusedBy, doneWith, answered, rewriting}
 use Rattle.rewriting.specs.declared.Rewritten.{Rewritten}
-use Rattle.rewriting.proofs.Passing.{Passed, script-zero, guideline-zero, script-program, written-is}
-
--- Neither of two verdicts refuses.
-next-zero : (v w : Verdict) → (andThen v w) .number ≡ 0 → (v .number ≡ 0) × (w .number ≡ 0)
-unfolding andThen
-next-zero v w e = on (eqb (v .number) 0) refl e
-  where
-    on : (b : Bool) → eqb (v .number) 0 ≡ b → (cond b w v) .number ≡ 0 → (v .number ≡ 0) × (w .number ≡ 0)
-    on true q z = (eqb-true (v .number) 0 q, z)
-    on false q z = absurd (eqb-false (v .number) 0 q z)
+use Rattle.rewriting.proofs.Passing.{Passed, script-program, written-is}
 
 -- The output is long enough.
 long-enough : (n m : ℕ) → (refuseIf 21 (dueIf (ltb n m)) accepted) .number ≡ 0 → m ≤ n
@@ -63,8 +55,8 @@ module _ (s g o : List ℕ) (script-bytes : AllBytes s) (guideline-bytes : AllBy
   verdicts : (scriptVerdict Rewriting s .number ≡ 0) × (guidelineVerdict (definitionCount (fileOf s)) g .number ≡ 0) × (length (writtenFile s g) ≤ length o)
   unfolding rewritingVerdict
   verdicts =
-      let a = next-zero (scriptVerdict Rewriting s) _ (zero .0) in
-      let b = next-zero (guidelineVerdict (definitionCount (fileOf s)) g) _ (a .1) in
+      let a = then-zero (scriptVerdict Rewriting s) _ (zero .0) in
+      let b = then-zero (guidelineVerdict (definitionCount (fileOf s)) g) _ (a .1) in
       (a .0, b .0, long-enough (length o) (length (writtenFile s g)) (b .1))
 
   -- The script and the guideline are accepted.

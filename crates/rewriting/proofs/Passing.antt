@@ -1,6 +1,5 @@
 -- A script and a guideline that are accepted: what is written for them. Assumes nothing.
 use mathlib.Core.List.{List, [], _∷_}
-use mathlib.Core.Option.{Option, none, some}
 use mathlib.Core.Path.{_≡_, refl, sym, ap, _∙_}
 use Prim.Native.Nat.{ℕ, suc, _+_, _*_, _<_, _≤_}
 use native.Mathlib.Nat.{sub-zero}
@@ -12,60 +11,28 @@ use Rattle.calculus.specs.Term.{Term, Program}
 use Rattle.calculus.specs.Rewriting.{rewriteFrom, rewrite}
 use Rattle.terms.specs.Record.{count}
 use Rattle.terms.specs.Encode.{encodeProgram}
-use Rattle.refusal.specs.Refusal.{accepted, refuseIf}
+use Rattle.refusal.specs.Refusal.{accepted}
 use Rattle.refusal.specs.declared.Verdict.{Verdict}
 use Rattle.script.specs.File.{Definition, fileOf, programOf}
-use Rattle.script.specs.Check.{definitionCount, due1, due2, due3, due4, due5, due6, due7, scriptVerdict}
+use Rattle.script.specs.Check.{definitionCount, scriptVerdict}
 use Rattle.script.specs.WellFormed.{WellFormed}
-use Rattle.script.specs.declared.Purpose.{Purpose}
 use Rattle.script.specs.declared.Purpose.the-variants.{Rewriting}
-use Rattle.script.proofs.Accepted.{NoneDue, accepted-none, Whole, whole-file, file-bytes, none-formed, program-length}
+use Rattle.script.proofs.Accepted.{NoneDue, accepted-none, script-zero, bodies-length, Whole, whole-file, file-bytes, none-formed, program-length}
 use Rattle.script.proofs.Due.{due1-none}
 use Rattle.script.proofs.Laid.{bodiesOf, file-laid}
 use Rattle.script.proofs.Program.{Numbered, misnumbered-none}
 use Rattle.script.proofs.Sizes.{laid-count}
 use Rattle.guideline.specs.Record.{count as recordCount}
 use Rattle.guideline.specs.Read.{guidelineOf}
-use Rattle.guideline.specs.Check.{due11, due12, due13, due14, due15, due16, due17, guidelineDue, guidelineVerdict}
+use Rattle.guideline.specs.Check.{guidelineVerdict}
 use Rattle.guideline.proofs.Accepted.{accepted-standing}
+use Rattle.guideline.proofs.Due.{guideline-zero}
 use Rattle.guideline.proofs.Functions.{verdict-file}
 use Rattle.rewriting.specs.Answer.{rewrittenFile, writtenFile}
 use Rattle.rewriting.specs.Marks.{Marks, gains}
 use Rattle.rewriting.specs.Grown.{grown}
 use Rattle.rewriting.proofs.Marking.{mark-is}
 use Rattle.rewriting.proofs.Growing.{Marked, grown-program, definitions-grow}
-
--- ---- a verdict with number 0 accepts
-
--- One number of the chain.
-refuse-zero : (k : ℕ) → 0 < k → (d : Option ℕ) (v : Verdict) → (v .number ≡ 0 → v ≡ accepted) → (refuseIf k d v) .number ≡ 0 → refuseIf k d v ≡ accepted
-unfolding refuseIf
-refuse-zero k l none v h e = h e
-refuse-zero k l (some p) v h e = absurd (omega arith)
-
--- The script's.
-pub script-zero : (u : Purpose) (s : List ℕ) → (scriptVerdict u s) .number ≡ 0 → scriptVerdict u s ≡ accepted
-unfolding scriptVerdict
-script-zero u s =
-    refuse-zero 1 (omega arith) (due1 u s) _
-    (refuse-zero 2 (omega arith) (due2 s) _
-    (refuse-zero 3 (omega arith) (due3 s) _
-    (refuse-zero 4 (omega arith) (due4 s) _
-    (refuse-zero 5 (omega arith) (due5 s) _
-    (refuse-zero 6 (omega arith) (due6 s) _
-    (refuse-zero 7 (omega arith) (due7 u s) accepted (λ _. refl)))))))
-
--- The guideline's.
-pub guideline-zero : (n : ℕ) (g : List ℕ) → (guidelineVerdict n g) .number ≡ 0 → guidelineVerdict n g ≡ accepted
-unfolding guidelineDue
-guideline-zero n g =
-    refuse-zero 11 (omega arith) (due11 g) _
-    (refuse-zero 12 (omega arith) (due12 g) _
-    (refuse-zero 13 (omega arith) (due13 g) _
-    (refuse-zero 14 (omega arith) (due14 g) _
-    (refuse-zero 15 (omega arith) (due15 g) _
-    (refuse-zero 16 (omega arith) (due16 g) _
-    (refuse-zero 17 (omega arith) (due17 n g) accepted (λ _. refl)))))))
 
 -- The bytes of the script, and that it is accepted.
 pub record ScriptPassed (s : List ℕ) : Type 0 where
@@ -86,12 +53,6 @@ pub passed : {s : List ℕ} (g : List ℕ) {n : ℕ} {v : Verdict} → ScriptPas
 passed {s} g p b q e z = record { script = p; bytes = b; verdict = guideline-zero (definitionCount (fileOf s)) g (rw (e, q) at z) }
 
 -- ---- the script
-
--- There are as many bodies as definitions.
-bodies-length : (ds : List Definition) → length (bodiesOf ds) ≡ length ds
-unfolding each
-bodies-length [] = refl
-bodies-length (d ∷ ds) = ap suc (bodies-length ds)
 
 module _ {s : List ℕ} (p : ScriptPassed s) where
   -- No number is due.

@@ -12,8 +12,9 @@ use Rattle.calculus.specs.Lists.{each}
 use Rattle.calculus.specs.Term.{Term, Program, records, Scoped, Defined, Bare, BareProgram, bodies, definitionRecords}
 use Rattle.terms.specs.Encode.{encode, encodeFrom, encodeProgram}
 use Rattle.terms.proofs.Encode.{record-length, encode-length, stands-fits}
-use Rattle.refusal.specs.Refusal.{accepted, refuse-not, accepted-parts}
-use Rattle.script.specs.Check.{due1, due2, due3, due4, due5, due6, due7, brokenAt, looseAt, looseBody, undefinedName, firstIn, malformed, isCommand, misplaced, tooMany, scriptVerdict}
+use Rattle.refusal.specs.Refusal.{accepted, refuse-not, accepted-parts, Settles, refuse-settles}
+use Rattle.refusal.specs.declared.Verdict.{Verdict}
+use Rattle.script.specs.Check.{due1, due2, due3, due4, due5, due6, due7, brokenAt, looseAt, looseBody, undefinedName, firstIn, malformed, isCommand, misplaced, tooMany, definitionCount, scriptVerdict}
 use Rattle.script.specs.File.{Definition, File, fileOf, programOf}
 use Rattle.script.specs.File.File.{whole, broken}
 use Rattle.script.specs.WellFormed.{InRanges, Commands, WellFormed}
@@ -60,6 +61,17 @@ none-accepted u s n =
     refuse-not 1 _ (n .one) ∙ refuse-not 2 _ (n .two) ∙ refuse-not 3 _ (n .three) ∙ refuse-not 4 _ (n .four) ∙ refuse-not 5 _ (n .five)
     ∙ refuse-not 6 _ (n .six) ∙ refuse-not 7 _ (n .seven)
 
+-- A verdict with number 0 accepts.
+pub script-zero : (u : Purpose) (s : List ℕ) → Settles (scriptVerdict u s)
+unfolding scriptVerdict
+script-zero u s =
+    refuse-settles 1 (omega arith) (due1 u s) _
+    (refuse-settles 2 (omega arith) (due2 s) _
+    (refuse-settles 3 (omega arith) (due3 s) _
+    (refuse-settles 4 (omega arith) (due4 s) _
+    (refuse-settles 5 (omega arith) (due5 s) _
+    (refuse-settles 6 (omega arith) (due6 s) _ (refuse-settles 7 (omega arith) (due7 u s) accepted (λ _. refl)))))))
+
 -- ---- number 3
 
 -- A file that is not broken.
@@ -77,6 +89,20 @@ whole-by (broken j) q = absurd (Option·some-ne-none j q)
 -- The file that is read is whole where number 3 is not due.
 pub whole-file : (s : List ℕ) → due3 s ≡ none → Whole (fileOf s)
 whole-file s q = whole-by (fileOf s) q
+
+-- An accepted script has at most 128 definitions.
+numbered-few : (f : ℕ) (ds : List Definition) → f ≤ 128 → Numbered f ds → f + length ds ≤ 128
+numbered-few f [] l h = omega arith
+numbered-few f (d ∷ ds) l h = omega (arith, numbered-few (suc f) ds (omega arith) (h .2))
+
+pub few-definitions : (u : Purpose) (s : List ℕ) {v : Verdict} → v ≡ scriptVerdict u s → v .number ≡ 0 → definitionCount (fileOf s) ≤ 128
+few-definitions u s {v} e z = on (whole-file s (n .three))
+  where
+    n : NoneDue u s
+    n = accepted-none u s (script-zero u s (rw e at z))
+
+    on : Whole (fileOf s) → definitionCount (fileOf s) ≤ 128
+    on w = rw (w .is) (let l = numbered-few 0 (w .definitions) (omega arith) (misnumbered-none 0 (w .definitions) (rw (w .is) at (n .four))) in omega arith)
 
 -- ---- number 5
 
@@ -98,16 +124,11 @@ bodies-loose (d ∷ ds) h =
 
 -- ---- a file that is laid out so
 
--- There are as many bodies as definitions, …
-bodies-length : (ds : List Definition) → length (bodiesOf ds) ≡ length ds
+-- There are as many bodies as definitions.
+pub bodies-length : (ds : List Definition) → length (bodiesOf ds) ≡ length ds
 unfolding each
 bodies-length [] = refl
 bodies-length (d ∷ ds) = ap suc (bodies-length ds)
-
--- … and not too many.
-numbered-few : (f : ℕ) (ds : List Definition) → f ≤ 128 → Numbered f ds → f + length ds ≤ 128
-numbered-few f [] l h = omega arith
-numbered-few f (d ∷ ds) l h = omega (arith, numbered-few (suc f) ds (omega arith) (h .2))
 
 module _ (s : List ℕ) (ds : List Definition) (m : ℕ) (e : Term) (h : Laid s 0 ds m e) where
   -- Commands, for checking, rewriting and the plain run.

@@ -3,8 +3,8 @@ use mathlib.Core.Path.{_≡_, refl, sym, ap, ap₂, _∙_}
 use mathlib.Core.List.{List, [], _∷_, _++_, append-assoc, append-nil}
 use Prim.Native.Nat.{ℕ, zero, suc, _+_, _-_, _<_, _≤_}
 use native.Mathlib.Omega.{arith}
-use lib.ListN.{length, take, drop, set, getD, replicate, length-append, length-drop, length-replicate, replicate-append-replicate, drop-of-length-le}
-use lib.Seq.{take-at, take-all, drop-at, drop-drop, drop-set-lt}
+use lib.ListN.{length, take, drop, set, getD, replicate, length-append, length-take, length-drop, length-replicate, replicate-append-replicate, drop-of-length-le}
+use lib.Seq.{take-at, take-all, drop-at, drop-drop, drop-length, drop-set-lt}
 use Rattle.words.specs.Bytes.{bytes, part, part-left}
 use Rattle.words.specs.Put.{put, put-drop, put-start, put-set, put-put, put-length}
 
@@ -39,6 +39,21 @@ bytes-zeros zero = refl
 bytes-zeros (suc w) = ap (λ (t : List ℕ). 0 ∷ t) (bytes-zeros w)
 
 -- ---- a filled buffer
+
+-- a buffer of just that size has nothing past it
+pub filled-exact : (n : ℕ) (xs a b : List ℕ) → length a ≡ n → length b ≡ n → filled n xs a ≡ filled n xs b
+unfolding filled
+filled-exact n xs a b p q =
+    let d : drop n a ≡ drop n b = ap (λ (x : ℕ). drop x a) (sym p) ∙ drop-length a ∙ sym (drop-length b) ∙ ap (λ (x : ℕ). drop x b) q in
+    ap (λ (l : List ℕ). xs ++ (zeros (n - length xs) ++ l)) d
+
+-- what is past the size comes back behind a filling of the part inside it
+pub filled-rest : (n : ℕ) (xs old : List ℕ) → filled n xs (take n old) ++ drop n old ≡ filled n xs old
+unfolding filled
+filled-rest n xs old =
+    let l : length (take n old) ≤ n = simp length-take (omega arith) in
+    let d : drop n (take n old) ≡ [] = drop-of-length-le (take n old) l in
+    ap (λ (y : List ℕ). (xs ++ (zeros (n - length xs) ++ y)) ++ drop n old) d ∙ simp append-assoc
 
 module _ (n : ℕ) (xs old : List ℕ) (fits : length xs ≤ n) where
   -- the part inside the size
