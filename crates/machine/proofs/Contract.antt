@@ -1,4 +1,5 @@
 -- Firing a redex: the body that it goes to, and what its result leaves in the buffer. Assumes nothing.
+use mathlib.Core.Bool.{true, false}
 use mathlib.Core.List.{List}
 use mathlib.Core.Logic.{_⊎_, inl, inr}
 use mathlib.Core.Option.{Option, none, some, IsSome}
@@ -6,7 +7,7 @@ use mathlib.Core.Path.{_≡_, refl, sym, ap, ap₂, subst, _∙_}
 use Prim.Native.Nat.{ℕ, _+_, _-_, _*_, _/_, _<_, _≤_}
 use native.Mathlib.Omega.{arith}
 use lib.ListN.{length, take, drop, getD}
-use borrow.Author.Tests.{eq-eqb, ne-eqb}
+use borrow.Author.Tests.{eq-eqb, ne-eqb, le-leb, lt-leb}
 use Rattle.words.specs.Bytes.{part}
 use Rattle.words.specs.Put.{put, part-put}
 use Rattle.calculus.specs.Term.{Term, Codebase, records, size, Bare, Defined, codebase}
@@ -34,7 +35,7 @@ use Rattle.zipper.proofs.Whole.{poised-whole, poised-own}
 use Rattle.zipper.proofs.Redex.{abstraction-step, name-step, function-there, head-kind, head-name, head-abstraction, facts, argument-part, room-small, room-large, contracted}
 use Rattle.machine.specs.Program.{programIn, codeIn}
 use Rattle.machine.specs.Bodies.{BodyAt, Positions}
-use Rattle.machine.specs.Fire.{bodyFor, Source, Ready, FiredIs}
+use Rattle.machine.specs.Fire.{bodyFor, Source, Ready, FiredIs, FitsIs}
 use Rattle.machine.specs.declared.Fired.{Fired}
 use Rattle.machine.specs.declared.Fired.the-variants.{Made, Over}
 use Rattle.machine.proofs.Strip.{stripped-from}
@@ -275,6 +276,19 @@ module _ {e s bodies : List ℕ} {p l r : ℕ} {T : Term} (h : Ready (codeIn s) 
           let a = written-full (encode (result k)) o most x o′ (written k) d in
           let c : room < 8 * records (result k) = omega (arith, a .0, encode-length (result k)) in
           rw (goes k) (omega (arith, whole-size k, room-large k end at (result k) c), refl)
+
+      -- Whether there is room for it.
+      pub fits-room : most ≤ room → (q : ℕ) → x ≡ Done q → FitsIs (step (codeIn s) T) true
+      fits-room l q d =
+          let k = h .poised in
+          rw (goes k) (sym (le-leb (size (plug (k .frames) (result k))) limit (omega (arith, whole-size k, small k q d l))))
+
+      pub fits-not : room ≤ most → x ≡ Full → FitsIs (step (codeIn s) T) false
+      fits-not l d =
+          let k = h .poised in
+          let a = written-full (encode (result k)) o most x o′ (written k) d in
+          let c : room < 8 * records (result k) = omega (arith, a .0, encode-length (result k)) in
+          rw (goes k) (sym (lt-leb (size (plug (k .frames) (result k))) limit (omega (arith, whole-size k, room-large k end at (result k) c))))
 
 -- ---- what a run makes of an answer
 

@@ -1,9 +1,9 @@
 -- What firing a redex does, by the calculus's step. Assumes nothing.
-use mathlib.Core.Bool.{cond}
+use mathlib.Core.Bool.{Bool, cond}
 use mathlib.Core.List.{List}
 use mathlib.Core.Path.{_≡_}
 use Prim.Native.Nat.{ℕ, _+_, _-_, _<_, _≤_}
-use lib.Dec.{eqb}
+use lib.Dec.{eqb, leb}
 use lib.ListN.{length, getD}
 use Rattle.calculus.specs.Term.{Term, Codebase, Defined, size}
 use Rattle.calculus.specs.Step.{Next}
@@ -45,3 +45,9 @@ FiredIs T atValue p l r x e e′ = ⊥
 FiredIs T atStuck p l r x e e′ = ⊥
 FiredIs T (next ev T′) p l r (Made r′) e e′ = (size T′ ≤ limit) × ((fs : List ℕ) (n : ℕ) → Poised e fs p l r n T → ZipOf e′ fs p r′ (n - 1) T′)
 FiredIs T (next ev T′) p l r Over e e′ = (limit < size T′) × (e′ ≡ e)
+
+-- Whether T's step leaves at most 1,024 records.
+abbrev pub FitsIs : Next → Bool → Type 0
+FitsIs atValue x = ⊥
+FitsIs atStuck x = ⊥
+FitsIs (next ev T′) x = x ≡ leb (size T′) limit

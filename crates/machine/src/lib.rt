@@ -10,7 +10,7 @@ ghost use Rattle.substitution.specs.Copied.{copied, WrittenIs};
 ghost use Rattle.zipper.specs.Zipper.{wholeIn};
 ghost use Rattle.machine.specs.Program.{Formed, codeIn};
 ghost use Rattle.machine.specs.Bodies.{commandsAt, Positions, Found};
-ghost use Rattle.machine.specs.Fire.{bodyFor, Source, Ready, FiredIs};
+ghost use Rattle.machine.specs.Fire.{bodyFor, Source, Ready, FiredIs, FitsIs};
 ghost use Rattle.machine.specs.Outcome.{outcomeNumber};
 
 // How a run ends.
@@ -145,5 +145,30 @@ pub fn fire(
             Fired::Made(end - q / 8)
         }
         Substituted::Full => Fired::Over,
+    }
+}
+
+// Whether the redex's result leaves at most 1,024 records in all; the expression stays as it is.
+pub fn fits(
+    e: &[u8],
+    scratch: &mut [u8],
+    st: &mut [u16],
+    script: &[u8],
+    bodies: &[u32],
+    p: usize,
+    l: usize,
+    r: usize,
+) -> bool
+    requires { ⌜ Ready (codeIn (now script)) (now e) p l r (wholeIn (now e) l r) ⌝ }
+    requires { ⌜ Positions (now script) (now bodies) ⌝ }
+    requires { ⌜ 24576 ≤ length (now scratch) ⌝ }
+    requires { ⌜ 1024 ≤ length (now st) ⌝ }
+    ensures { λ x. ⌜ FitsIs (step (codeIn (now (script .entry))) (wholeIn (now (e .entry)) l r)) x ⌝ }
+{
+    let end = zipper::end_of(e, r);
+    let room = 8 * (1024 - (p + (3072 - end)));
+    match reduce(e, p, 8 * r, 8 * end, script, bodies, scratch, st, room) {
+        Substituted::Done(_) => true,
+        Substituted::Full => false,
     }
 }

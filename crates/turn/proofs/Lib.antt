@@ -1,0 +1,3 @@
+pub mod Booked
+pub mod Marks
+pub mod Turns
