@@ -1,16 +1,16 @@
 -- How much rewriting adds. Assumes nothing.
 use mathlib.Core.Bool.{Bool, true, false, cond, not, _&&_, _||_}
 use mathlib.Core.List.{List, [], _∷_, List·Memᴰ, List·Memᴰ·head, List·Memᴰ·tail}
-use mathlib.Core.Path.{_≡_, refl, sym, ap, ap₂, _∙_}
+use mathlib.Core.Path.{_≡_, refl, sym, ap, _∙_}
 use native.Mathlib.Omega.{arith}
 use Prim.Native.Nat.{ℕ, zero, suc, _+_, _*_, _<_}
-use lib.Dec.{T, eqb, eqb→eq}
+use lib.Dec.{eqb, eqb→eq}
 use lib.ListN.{length}
 use Rattle.calculus.specs.Lists.{any, keep, among, distinct}
 use Rattle.calculus.specs.Term.{Term, Program, records, definitionRecords, programRecords}
 use Rattle.calculus.specs.Guideline.{Guideline}
 use Rattle.calculus.specs.Rewriting.{logevents, triggers, logged, noted, instrument, rewriteFrom, rewrite}
-use Rattle.calculus.proofs.Lists.{T-true, true-T, T-false, same-T, false-T, eqb-same, among-from, keep-yes, keep-no}
+use Rattle.calculus.proofs.Lists.{T-true, true-T, T-false, false-T, eqb-same, keep-yes, keep-no}
 
 -- ---- how many of the numbers below n pass a test
 

@@ -1,11 +1,11 @@
 -- Tests and what they say; laws of `any`, `all`, `keep` and `each`. Assumes nothing.
-use mathlib.Core.Bool.{Bool, true, false, cond, not, _&&_, _||_}
+use mathlib.Core.Bool.{Bool, true, false, cond, _&&_, _||_}
 use mathlib.Core.List.{List, [], _∷_, _++_, append-assoc, List·Memᴰ, List·Memᴰ·head, List·Memᴰ·tail, Memᴰ·append-left, Memᴰ·append-right, List·Memᴰ·append-cases, List·Memᴰ·not-nil, Memᴰ·cast}
 use mathlib.Core.Logic.{_⊎_, inl, inr}
-use mathlib.Core.Path.{_≡_, refl, sym, ap, ap₂, _∙_}
-use Prim.Native.Nat.{ℕ, zero, suc}
-use lib.Dec.{T, eqb, ltb, eqb→eq, eqb-refl}
-use Rattle.calculus.specs.Lists.{any, all, keep, each, among, distinct}
+use mathlib.Core.Path.{_≡_, refl, sym, ap}
+use Prim.Native.Nat.{ℕ}
+use lib.Dec.{T, eqb, eqb→eq, eqb-refl}
+use Rattle.calculus.specs.Lists.{any, all, keep, each, among}
 use Rattle.calculus.specs.Term.{View}
 use Rattle.calculus.specs.Derive.{sameView}
 

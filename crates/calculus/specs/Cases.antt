@@ -4,7 +4,7 @@ use mathlib.Core.Path.{_≡_}
 use Prim.Native.Nat.{ℕ}
 use Rattle.calculus.specs.Term.{Term, View, Program, viewOf}
 use Rattle.calculus.specs.Term.Term.{var, fun, con, lam, app}
-use Rattle.calculus.specs.Guideline.{Guideline, Atom, Rule, Clause, Condition}
+use Rattle.calculus.specs.Guideline.{Guideline, Atom, Condition}
 use Rattle.calculus.specs.Guideline.Condition.{before, related}
 use Rattle.calculus.specs.Least.{Least}
 use Rattle.calculus.specs.Derive.{factOf}

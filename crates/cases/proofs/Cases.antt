@@ -27,7 +27,7 @@ use Rattle.terms.specs.Encode.{encodeProgram}
 use Rattle.refusal.specs.First.{firstFrom, firstBelow}
 use Rattle.refusal.specs.Refusal.{accepted, refuseIf, dueBelow, andThen}
 use Rattle.refusal.specs.declared.Verdict.{Verdict}
-use Rattle.script.specs.File.{fileOf}
+use Rattle.script.specs.File.{fileOf, programIn}
 use Rattle.script.specs.Check.{scriptVerdict, definitionCount}
 use Rattle.script.specs.WellFormed.{InRanges, WellFormed}
 use Rattle.script.specs.declared.Purpose.the-variants.{Rewriting}
@@ -39,7 +39,6 @@ use Rattle.guideline.specs.Read.{numbersFrom, endOf, rowFrom, ofKind, guideline
 use Rattle.guideline.specs.Check.{misplaced, factsBelow, clausesBelow, triggersBefore, guidelineDue, guidelineVerdict}
 use Rattle.rewriting.specs.Answer.{writtenFile, rewritingVerdict}
 use Rattle.rewriting.proofs.Passing.{Passed}
-use Rattle.machine.specs.Program.{programIn}
 use Rattle.machine.specs.Outcome.{outcomeOf}
 use Rattle.machine.specs.declared.Outcome.{Outcome}
 use Rattle.machine.proofs.Program.{program-there}

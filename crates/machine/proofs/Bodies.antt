@@ -24,7 +24,8 @@ use Rattle.zipper.specs.Zipper.{endAt}
 use Rattle.zipper.proofs.Parts.{first-kind, first-inside, records-some}
 use Rattle.zipper.proofs.Whole.{end-there}
 use Rattle.zipper.proofs.Ends.{last-there}
-use Rattle.machine.specs.Program.{programIn, codeIn, Formed}
+use Rattle.script.specs.File.{programIn}
+use Rattle.machine.specs.Program.{codeIn, Formed}
 use Rattle.machine.specs.Bodies.{emitMark, markOf, commandsAt, BodyAt, Found}
 use Rattle.machine.proofs.Strip.{strip-fits, stripped-from}
 use Rattle.machine.proofs.Program.{Body, body-below, formed-body, formed-main}

@@ -33,7 +33,8 @@ use Rattle.zipper.proofs.Context.{plug-part, plug-keeps}
 use Rattle.zipper.proofs.Parts.{first-inside, bounds, focus-bare, focus-fits}
 use Rattle.zipper.proofs.Whole.{poised-whole, poised-own}
 use Rattle.zipper.proofs.Redex.{abstraction-step, name-step, function-there, head-kind, head-name, head-abstraction, facts, argument-part, room-small, room-large, contracted}
-use Rattle.machine.specs.Program.{programIn, codeIn}
+use Rattle.script.specs.File.{programIn}
+use Rattle.machine.specs.Program.{codeIn}
 use Rattle.machine.specs.Bodies.{BodyAt, Positions}
 use Rattle.machine.specs.Fire.{bodyFor, Source, Ready, FiredIs, FitsIs}
 use Rattle.machine.specs.declared.Fired.{Fired}

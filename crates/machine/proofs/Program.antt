@@ -21,7 +21,8 @@ use Rattle.script.proofs.Program.{FitsProgram, file-encode, numbered-bodies}
 use Rattle.script.proofs.Accepted.{accepted-program, formed-fits}
 use Rattle.zipper.specs.Layout.{Expression}
 use Rattle.calculus.proofs.Size.{bare-size}
-use Rattle.machine.specs.Program.{programIn, codeIn, Formed}
+use Rattle.script.specs.File.{programIn}
+use Rattle.machine.specs.Program.{codeIn, Formed}
 use Rattle.machine.proofs.Strip.{strip-same, strip-size, defined-strip, strip-closed}
 
 -- ---- the program of the bytes

@@ -13,7 +13,8 @@ use Rattle.terms.specs.Read.{termAt}
 use Rattle.terms.specs.Encode.{Fits}
 use Rattle.substitution.specs.Copied.{Lies}
 use Rattle.zipper.specs.Zipper.{Last}
-use Rattle.machine.specs.Program.{programIn, codeIn}
+use Rattle.script.specs.File.{programIn}
+use Rattle.machine.specs.Program.{codeIn}
 
 -- How many commands a body begins with that begins with 6: one, or two where 7 is its rest.
 abbrev pub emitMark : Term → ℕ

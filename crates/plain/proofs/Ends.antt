@@ -11,7 +11,7 @@ use Rattle.terms.specs.Encode.{encode}
 use Rattle.refusal.specs.declared.Verdict.{Verdict}
 use Rattle.zipper.specs.Zipper.{wholeIn, Stored, Flat}
 use Rattle.zipper.proofs.Whole.{flat-whole, flat-own}
-use Rattle.machine.specs.Program.{programIn}
+use Rattle.script.specs.File.{programIn}
 use Rattle.machine.specs.Outcome.{outcomeOf}
 use Rattle.plain.specs.Answer.{plainDue, After, after, ranAfter, plainOf, Rested}
 use Rattle.plain.specs.declared.Rest.{Rest}

@@ -26,7 +26,8 @@ use Rattle.zipper.specs.declared.Sought.the-variants.{Value, Stuck, Redex}
 use Rattle.zipper.proofs.Context.{step-value}
 use Rattle.zipper.proofs.Whole.{zip-own, zip-whole, poised-flat, poised-whole, sought-value, sought-stuck, sought-redex}
 use Rattle.zipper.proofs.Ends.{loaded-zip}
-use Rattle.machine.specs.Program.{programIn, codeIn, Formed}
+use Rattle.script.specs.File.{programIn}
+use Rattle.machine.specs.Program.{codeIn, Formed}
 use Rattle.machine.specs.Bodies.{Positions, Found}
 use Rattle.machine.specs.Fire.{Ready, FiredIs}
 use Rattle.machine.specs.Outcome.{outcomeOf}
@@ -69,11 +70,7 @@ module _ (C : Codebase) (T : Term) (k : ℕ) (m : List Call) where
         on (no l) = run-spent (plainTick C) (conf T k m) _ (small-tick (omega arith))
 
 pub lt-of : (a b : ℕ) → a ≤ b → (a ≡ b → ⊥) → a < b
-lt-of a b i j = pick (decLt a b)
-  where
-    pick : Dec (a < b) → a < b
-    pick (yes y) = y
-    pick (no y) = absurd (j (omega arith))
+lt-of a b i j = omega (arith, i, j)
 
 -- ---- the run
 

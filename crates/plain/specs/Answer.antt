@@ -13,7 +13,7 @@ use Rattle.refusal.specs.declared.Verdict.{Verdict}
 use Rattle.script.specs.Check.{scriptVerdict}
 use Rattle.script.specs.declared.Purpose.the-variants as purposes
 use Rattle.zipper.specs.Zipper.{Flat}
-use Rattle.machine.specs.Program.{programIn}
+use Rattle.script.specs.File.{programIn}
 use Rattle.machine.specs.Outcome.{outcomeOf, outcomeNumber}
 use Rattle.machine.specs.declared.Outcome.{Outcome}
 use Rattle.plain.specs.declared.Rest.{Rest}

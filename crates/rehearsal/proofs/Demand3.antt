@@ -25,7 +25,7 @@ use Rattle.guideline.specs.Read.{guidelineOf}
 use Rattle.rewriting.specs.Answer.{writtenFile, rewriting}
 use Rattle.rewriting.proofs.Passing.{Passed}
 use Rattle.rewriting.proofs.Calling.{call-passed, call-written}
-use Rattle.machine.specs.Program.{programIn}
+use Rattle.script.specs.File.{programIn}
 use Rattle.machine.specs.Outcome.{outcomeOf}
 use Rattle.machine.specs.declared.Outcome.{Outcome}
 use Rattle.machine.specs.declared.Outcome.the-variants.{Full}

@@ -6,7 +6,7 @@ use Prim.Native.Nat.{ℕ, zero, suc, _^_, _<_, _≤_}
 use native.Mathlib.Omega.{arith}
 use Rattle.calculus.specs.Term.{Term, Codebase, Program, codebase, view}
 use Rattle.calculus.specs.Term.Term.{var, fun, con, lam, app, callEvent, emit}
-use Rattle.calculus.specs.Step.{Event, step}
+use Rattle.calculus.specs.Step.{Event}
 use Rattle.calculus.specs.Step.Event.{calls}
 use Rattle.calculus.specs.Entailment.{Call, entry}
 use Rattle.calculus.specs.Run.{initial, plainTick, plain, plainRun}

@@ -14,7 +14,7 @@ use Rattle.calculus.specs.Run.{Result, plainRun}
 use Rattle.calculus.specs.Log as L
 use Rattle.refusal.specs.Refusal.{accepted, dueIf, andThen, refuseIf, refuse-zero, not-due}
 use Rattle.refusal.specs.declared.Verdict.{Verdict}
-use Rattle.script.specs.File.{fileOf}
+use Rattle.script.specs.File.{fileOf, programIn}
 use Rattle.script.specs.Check.{scriptVerdict, definitionCount}
 use Rattle.script.specs.declared.Purpose.the-variants.{Rewriting, PlainRun, RewrittenRun}
 use Rattle.script.proofs.Program.{FitsProgram}
@@ -25,7 +25,6 @@ use Rattle.guideline.proofs.Functions.{verdict-file}
 use Rattle.rewriting.specs.Answer.{writtenFile}
 use Rattle.rewriting.proofs.Passing.{Passed, script-program, script-bytes, script-formed, written-is}
 use Rattle.rewriting.proofs.Formed.{written-formed, written-accepted, written-definitions}
-use Rattle.machine.specs.Program.{programIn}
 use Rattle.machine.specs.declared.Outcome.{Outcome}
 use Rattle.machine.proofs.Program.{program-there}
 use Rattle.plain.specs.Answer as plain

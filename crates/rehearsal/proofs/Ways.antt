@@ -6,7 +6,7 @@ use Prim.Native.Nat.{ℕ, _*_, _<_, _≤_}
 use native.Mathlib.Omega.{arith}
 use lib.Dec.{eqb, ltb}
 use lib.ListN.{length, take}
-use borrow.Author.Tests.{eq-eqb, ne-eqb, eqb-true, eqb-false, lt-ltb, le-ltb, ltb-false}
+use borrow.Author.Tests.{eq-eqb, ne-eqb, eqb-true, lt-ltb, le-ltb, ltb-false}
 use Rattle.words.specs.Bytes.{AllBytes}
 use Rattle.words.specs.Put.{put}
 use Rattle.refusal.specs.Refusal.{verdict, dueIf, refuseIf, refuse-zero, not-due}
@@ -14,7 +14,7 @@ use Rattle.refusal.specs.declared.Verdict.{Verdict}
 use Rattle.rewriting.specs.Answer as rewrites
 use Rattle.rewriting.specs.Answer.{refusedBy, doneWith, writtenFile, rewritingVerdict, rewriting}
 use Rattle.rewriting.specs.declared.Rewritten.{Rewritten}
-use Rattle.rewriting.proofs.Calling.{call-passed, call-written}
+use Rattle.rewriting.proofs.Calling.{answer-zero, call-passed, call-written}
 use Rattle.rewritten.specs.Answer as runs
 use Rattle.rewritten.specs.Answer.{tooShort, rewrittenOf}
 use Rattle.rewritten.specs.declared.RewrittenRun.{RewrittenRun}
@@ -36,16 +36,6 @@ module _ (v : Verdict) (file o o′ : List ℕ) (r : Rewritten) (a : rewrites.af
           → (o′ ≡ o) × (verdict (r .number) (r .place) ≡ v)
       on true q w = absurd (z (ap (λ (x : rewrites.After). x .answer .number) w))
       on false q w = (ap (λ (x : rewrites.After). x .out) w, ap (λ (x : rewrites.After). verdict (x .answer .number) (x .answer .place)) w)
-
-  -- Where nothing is refused, the file is put at the front of the output.
-  answer-done : r .number ≡ 0 → (o′ ≡ put o 0 file) × (v .number ≡ 0)
-  unfolding rewrites.answered
-  answer-done z = on (eqb (v .number) 0) refl a
-    where
-      on : (b : Bool) → eqb (v .number) 0 ≡ b → rewrites.after o′ r ≡ cond b (rewrites.after (put o 0 file) (doneWith file)) (rewrites.after o (refusedBy v))
-          → (o′ ≡ put o 0 file) × (v .number ≡ 0)
-      on true q w = (ap (λ (x : rewrites.After). x .out) w, eqb-true (v .number) 0 q)
-      on false q w = absurd (eqb-false (v .number) 0 q (sym (ap (λ (x : rewrites.After). x .answer .number) w) ∙ z))
 
 -- ---- both promises
 
@@ -91,8 +81,8 @@ module _ (s g : List ℕ) (n : ℕ) (o e c h l t : List ℕ) where
         ran-is : (y : runs.After) → y ≡ rewrittenOf (writtenFile s g) g n e c h l t → after o′ y ≡ rehearsalOf s g n o e c h l t
         unfolding answered
         ran-is y w =
-            let q = answer-done (rewritingVerdict s g (length o)) (writtenFile s g) o o′ r a z in
-            rw (← rewriting-due, eq-eqb (rewritingVerdict s g (length o) .number) 0 (q .1), q .0, w)
+            let q = answer-zero (rewritingVerdict s g (length o)) (writtenFile s g) o o′ r a z in
+            rw (← rewriting-due, eq-eqb (rewritingVerdict s g (length o) .number) 0 (q .0), q .1, w)
 
         -- … and demand 3 holds of it.
         ran-claimed : (x : RewrittenRun) (e′ c′ h′ l′ t′ : List ℕ) → runs.after x e′ c′ h′ l′ t′ ≡ rewrittenOf (writtenFile s g) g n e c h l t → Claimed s g n x e′ l′

@@ -8,7 +8,7 @@ use lib.ListN.{length, take}
 use Rattle.calculus.specs.Entailment.{Entry, Entails}
 use Rattle.calculus.specs.Claim.{callsBelow, Rising, Full as FullMeans}
 use Rattle.guideline.specs.Read.{guidelineOf}
-use Rattle.machine.specs.Program.{programIn}
+use Rattle.script.specs.File.{programIn}
 use Rattle.machine.specs.declared.Outcome.{Outcome}
 use Rattle.machine.specs.declared.Outcome.the-variants.{Full}
 use Rattle.plain.specs.Answer.{bufferSize, plainOf}

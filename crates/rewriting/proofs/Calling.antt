@@ -36,7 +36,7 @@ long-enough n m e = on (ltb n m) refl e
     on false q z = ltb-false n m q
 
 -- An answer with number 0.
-answer-zero : (v : Verdict) (file o o′ : List ℕ) (r : Rewritten) → after o′ r ≡ answered v file o → r .number ≡ 0
+pub answer-zero : (v : Verdict) (file o o′ : List ℕ) (r : Rewritten) → after o′ r ≡ answered v file o → r .number ≡ 0
     → (v .number ≡ 0) × (o′ ≡ put o 0 file) × (r .records ≡ count file)
 unfolding answered
 answer-zero v file o o′ r e z = on (eqb (v .number) 0) refl e

@@ -1,19 +1,18 @@
 -- A script and a guideline that are accepted: what is written for them. Assumes nothing.
-use mathlib.Core.List.{List, [], _∷_}
-use mathlib.Core.Path.{_≡_, refl, sym, ap, _∙_}
-use Prim.Native.Nat.{ℕ, suc, _+_, _*_, _<_, _≤_}
+use mathlib.Core.List.{List}
+use mathlib.Core.Path.{_≡_, sym, ap, _∙_}
+use Prim.Native.Nat.{ℕ, _+_, _*_, _≤_}
 use native.Mathlib.Nat.{sub-zero}
 use native.Mathlib.Omega.{arith}
 use lib.ListN.{length}
 use Rattle.words.specs.Bytes.{AllBytes}
-use Rattle.calculus.specs.Lists.{each}
 use Rattle.calculus.specs.Term.{Term, Program}
 use Rattle.calculus.specs.Rewriting.{rewriteFrom, rewrite}
 use Rattle.terms.specs.Record.{count}
 use Rattle.terms.specs.Encode.{encodeProgram}
 use Rattle.refusal.specs.Refusal.{accepted}
 use Rattle.refusal.specs.declared.Verdict.{Verdict}
-use Rattle.script.specs.File.{Definition, fileOf, programOf}
+use Rattle.script.specs.File.{Definition, File, fileOf, programOf, fileProgram, programIn}
 use Rattle.script.specs.Check.{definitionCount, scriptVerdict}
 use Rattle.script.specs.WellFormed.{WellFormed}
 use Rattle.script.specs.declared.Purpose.the-variants.{Rewriting}
@@ -28,7 +27,7 @@ use Rattle.guideline.specs.Check.{guidelineVerdict}
 use Rattle.guideline.proofs.Accepted.{accepted-standing}
 use Rattle.guideline.proofs.Due.{guideline-zero}
 use Rattle.guideline.proofs.Functions.{verdict-file}
-use Rattle.rewriting.specs.Answer.{rewrittenFile, writtenFile}
+use Rattle.rewriting.specs.Answer.{writtenFile}
 use Rattle.rewriting.specs.Marks.{Marks, gains}
 use Rattle.rewriting.specs.Grown.{grown}
 use Rattle.rewriting.proofs.Marking.{mark-is}
@@ -92,8 +91,8 @@ module _ {s : List ℕ} (p : ScriptPassed s) where
 module _ {s g : List ℕ} (p : Passed s g) where
   -- The file that is written is the rewritten program's.
   pub written-is : writtenFile s g ≡ encodeProgram (rewrite (guidelineOf g) (script-program (p .script)))
-  unfolding writtenFile script-program
-  written-is = ap (rewrittenFile (guidelineOf g)) (file (p .script) .is)
+  unfolding writtenFile programIn script-program
+  written-is = ap (λ (f : File). encodeProgram (rewrite (guidelineOf g) (fileProgram f))) (file (p .script) .is)
 
   module _ {ms : List ℕ} (h : Marks g (recordCount g) ms) where
     -- The marks are what each function gains.

@@ -1,18 +1,16 @@
 -- What rewriting answers and writes (document 01, "Rewriting" and "Numbers by who can cause them"). Assumes nothing.
 use mathlib.Core.Bool.{cond}
-use mathlib.Core.List.{List, []}
+use mathlib.Core.List.{List}
 use Prim.Native.Nat.{ℕ}
 use lib.Dec.{eqb, ltb}
 use lib.ListN.{length}
 use Rattle.words.specs.Put.{put}
-use Rattle.calculus.specs.Guideline.{Guideline}
 use Rattle.calculus.specs.Rewriting.{rewrite}
 use Rattle.terms.specs.Record.{count}
 use Rattle.terms.specs.Encode.{encodeProgram}
 use Rattle.refusal.specs.Refusal.{accepted, refuseIf, dueIf, andThen}
 use Rattle.refusal.specs.declared.Verdict.{Verdict}
-use Rattle.script.specs.File.{File, fileOf, programOf}
-use Rattle.script.specs.File.File.{whole, broken}
+use Rattle.script.specs.File.{fileOf, programIn}
 use Rattle.script.specs.Check.{definitionCount, scriptVerdict}
 use Rattle.script.specs.declared.Purpose.the-variants.{Rewriting}
 use Rattle.guideline.specs.Read.{guidelineOf}
@@ -20,14 +18,9 @@ use Rattle.guideline.specs.Check.{guidelineVerdict}
 use Rattle.rewriting.specs.declared.Rewritten.{Rewritten}
 
 -- "a logged function's body gains 6 then 7, a trigger's body gains 6 only, a function that is both gains 6 and 7 once. All else is copied.":
--- the bytes of the rewritten program. A broken file has no program.
-abbrev pub rewrittenFile : Guideline → File → List ℕ
-rewrittenFile G (whole ds i e) = encodeProgram (rewrite G (programOf ds e))
-rewrittenFile G (broken j) = []
-
--- The file that rewriting a script under a guideline gives.
+-- the file that rewriting a script under a guideline gives has the bytes of the rewritten program.
 unfoldable pub writtenFile : List ℕ → List ℕ → List ℕ
-writtenFile s g = rewrittenFile (guidelineOf g) (fileOf s)
+writtenFile s g = encodeProgram (rewrite (guidelineOf g) (programIn s))
 
 -- "Rewriting and checking test the script, then the guideline"; "21 rewriting output too short (after 17 …)", for an output of n bytes.
 unfoldable pub rewritingVerdict : List ℕ → List ℕ → ℕ → Verdict

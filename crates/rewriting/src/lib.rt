@@ -2,7 +2,7 @@
 use refusal::Verdict;
 use script::Purpose;
 ghost use mathlib.Core.Path.{_≡_};
-ghost use Prim.Native.Nat.{_+_, _*_, _^_, _<_, _≤_};
+ghost use Prim.Native.Nat.{_+_, _*_, _<_, _≤_};
 ghost use lib.ListN.{length};
 ghost use Rattle.words.specs.Put.{put};
 ghost use Rattle.terms.specs.Record.{count};

@@ -2,7 +2,7 @@
 use mathlib.Core.Bool.{true}
 use mathlib.Core.List.{List, [], _∷_}
 use mathlib.Core.Option.{none}
-use mathlib.Core.Path.{_≡_, refl, ap, _∙_}
+use mathlib.Core.Path.{_≡_, ap, _∙_}
 use Prim.Native.Nat.{ℕ, zero, suc, _+_, _-_, _*_, _≤_}
 use native.Mathlib.Nat.{add-zero}
 use native.Mathlib.Numerals.{add-one}
@@ -11,7 +11,6 @@ use borrow.Author.Tests.{le-ltb, ltb-false}
 use Rattle.calculus.specs.Lists.{each}
 use Rattle.calculus.specs.Term.{Term, records, size, Bare, Placed, definitionRecords}
 use Rattle.calculus.specs.Term.Placed.{plain, noting, logging}
-use Rattle.calculus.specs.Term.Term.{var, fun, con, lam, app, callEvent, emit}
 use Rattle.calculus.proofs.Size.{bare-size}
 use Rattle.terms.specs.Record.{count}
 use Rattle.terms.proofs.Stands.{At, Stands}

@@ -1,6 +1,6 @@
 -- The script author's refusals, 1 to 7 (document 01, "Numbers by who can cause them"): each number is the first faulty record of the whole
 -- file, or not due. Assumes nothing.
-use mathlib.Core.Bool.{Bool, true, false, cond, not, _&&_, _||_}
+use mathlib.Core.Bool.{Bool, cond, not, _&&_, _||_}
 use mathlib.Core.List.{List, [], _∷_}
 use mathlib.Core.Option.{Option, none, some}
 use Prim.Native.Nat.{ℕ, zero, suc, _+_, _-_, _*_, _%_}

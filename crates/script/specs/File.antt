@@ -6,6 +6,7 @@ use Prim.Native.Nat.{ℕ, zero, suc, _+_, _-_}
 use lib.Dec.{eqb, ltb}
 use Rattle.calculus.specs.Lists.{each}
 use Rattle.calculus.specs.Term.{Term, Program}
+use Rattle.calculus.specs.Term.Term.{con}
 use Rattle.terms.specs.Record.{count, kindAt, recordNumber}
 use Rattle.terms.specs.Read.{Read, readAt}
 use Rattle.terms.specs.Read.Read.{got, stuck}
@@ -55,6 +56,15 @@ fileFrom s i = fileF (suc (count s - i)) s i
 abbrev pub fileOf : List ℕ → File
 fileOf s = fileFrom s 0
 
--- The program of a file: the bodies in order, and the main term.
+-- The program of definitions and a main term: the bodies in order, and the main term.
 abbrev pub programOf : List Definition → Term → Program
 programOf ds e = record { definitions = each (λ d. d .body ∷ []) ds; main = e }
+
+-- The program of a file. Where it is broken there is none: no contract that cites it admits such bytes.
+abbrev pub fileProgram : File → Program
+fileProgram (whole ds i e) = programOf ds e
+fileProgram (broken j) = record { definitions = []; main = con 0 }
+
+-- The program that a script's bytes encode.
+unfoldable pub programIn : List ℕ → Program
+programIn s = fileProgram (fileOf s)

@@ -1,6 +1,6 @@
 -- The copy is the calculus's substitution, its size, where it may be made, and what its answers say. Assumes nothing.
 use mathlib.Core.Bool.{Bool, true, false, cond}
-use mathlib.Core.List.{List, [], _++_}
+use mathlib.Core.List.{List, _++_}
 use mathlib.Core.Path.{_≡_, refl, sym, ap, ap₂, _∙_}
 use Prim.Native.Nat.{ℕ, suc, _+_, _*_, _<_, _≤_}
 use native.Mathlib.Nat.{add-mul}
@@ -10,7 +10,7 @@ use lib.ListN.{length, drop}
 use lib.Seq.{drop-at, drop-drop}
 use Rattle.words.specs.Bytes.{part, AllBytes}
 use Rattle.words.specs.Put.{put, put-length, part-put}
-use Rattle.calculus.specs.Term.{Term, records, size, Bare}
+use Rattle.calculus.specs.Term.{Term, records, Bare}
 use Rattle.calculus.specs.Term.Term.{var, fun, con, lam, app, callEvent, emit}
 use Rattle.calculus.specs.Substitution.{put as putTerm}
 use Rattle.terms.specs.Record.{record8}

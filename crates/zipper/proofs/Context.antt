@@ -2,9 +2,8 @@
 -- parts. Assumes nothing.
 use mathlib.Core.Bool.{true, false, false≢true}
 use mathlib.Core.List.{List, [], _∷_}
-use mathlib.Core.Path.{_≡_, refl, ap, ap₂, _∙_}
-use Prim.Native.Nat.{ℕ, suc, _+_}
-use Rattle.calculus.specs.Term.{Term, Codebase, isValue, records, size, Bare}
+use mathlib.Core.Path.{_≡_, refl, ap, _∙_}
+use Rattle.calculus.specs.Term.{Term, Codebase, isValue}
 use Rattle.calculus.specs.Term.Term.{var, fun, con, lam, app, callEvent, emit}
 use Rattle.calculus.specs.Step.{Next, redex, inside, step}
 use Rattle.calculus.specs.Step.Next.{atValue, atStuck, next}

@@ -1,19 +1,18 @@
 -- The whole expression as a function of the bytes, and where terms end. Assumes nothing.
 use mathlib.Core.Bool.{true}
-use mathlib.Core.List.{List, [], _++_, append-nil}
+use mathlib.Core.List.{List, [], append-nil}
 use mathlib.Core.Path.{_≡_, sym, ap, _∙_}
-use Prim.Native.Nat.{ℕ, _+_, _*_}
-use lib.ListN.{drop}
+use Prim.Native.Nat.{ℕ, _+_}
 use Rattle.calculus.specs.Term.{Term, Codebase, isValue, records}
 use Rattle.calculus.specs.Step.{step}
 use Rattle.calculus.specs.Step.Next.{atStuck}
 use Rattle.terms.specs.Read.{readAt, termOf, termAt}
-use Rattle.terms.specs.Encode.{encode, Fits}
+use Rattle.terms.specs.Encode.{encode}
 use Rattle.terms.specs.Walk.{passedOf, passTerm}
 use Rattle.terms.specs.declared.Passed.{Passed}
 use Rattle.terms.specs.declared.Passed.the-variants.{Next, Nothing}
 use Rattle.terms.proofs.Stands.{Stands, stands-read}
-use Rattle.terms.proofs.Encode.{read-encode-at, read-encode}
+use Rattle.terms.proofs.Encode.{read-encode}
 use Rattle.zipper.specs.Frame.{Frame, plug}
 use Rattle.zipper.specs.Layout.{Zip}
 use Rattle.zipper.specs.Zipper.{wholeIn, endOf, endAt, ZipOf, Flat, Poised, SoughtIs}

@@ -1,6 +1,5 @@
 -- `machine::fits` meets its contract: the room is what the limit leaves. Assumes nothing.
 use native.Mathlib.Omega.{arith}
-use denote.Ref.{now}
 use Rattle.machine.proofs.Contract.{numbers, ready-source, fits-room, fits-not}
 use borrow.Author.Needs.{needs}
 use Rattle.machine.proofs.fits.Statement.{statement}
