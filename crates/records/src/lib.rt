@@ -40,5 +40,5 @@ pub fn derive(guideline: &[u8], table: &mut [u8]) -> Verdict
 pub fn pass_term(script: &[u8], at: usize) -> Passed
     ensures { λ r. ⌜ r ≡ passTerm (now (script .entry)) at ⌝ }
 {
-    terms::pass_term(script, at)
+    reader::pass_at(script, at)
 }
