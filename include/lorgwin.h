@@ -27,6 +27,11 @@ typedef struct {
     uint32_t number, place, outcome, steps;
 } lorgwin_plain_run;
 
+/* The same with the counts of entries in history and log. */
+typedef struct {
+    uint32_t number, place, outcome, steps, history_count, log_count;
+} lorgwin_rewritten_run;
+
 /* Outcomes. */
 enum { LORGWIN_VALUE = 0, LORGWIN_STUCK = 1, LORGWIN_SPENT = 2, LORGWIN_LARGE = 3, LORGWIN_FULL = 4 };
 
@@ -34,6 +39,8 @@ enum { LORGWIN_VALUE = 0, LORGWIN_STUCK = 1, LORGWIN_SPENT = 2, LORGWIN_LARGE = 
 #define LORGWIN_TABLE_BYTES 8192
 #define LORGWIN_EXPRESSION_BYTES 24576
 #define LORGWIN_SCRATCH_BYTES 24576
+#define LORGWIN_HISTORY_BYTES 16384
+#define LORGWIN_LOG_BYTES 16384
 
 /* The longest file that rewriting writes. */
 #define LORGWIN_REWRITTEN_BYTES 8960
@@ -58,6 +65,15 @@ lorgwin_rewriting lorgwin_rewrite(const uint8_t *script, size_t script_len, cons
 /* Runs a script that is not rewritten, for at most `budget` steps: numbers 22, 23, then 1 to 7. Leaves the last expression at the front of its
  * buffer. */
 lorgwin_plain_run lorgwin_run_plain(const uint8_t *script, size_t script_len, uint32_t budget, uint8_t *expression, size_t expression_len, uint8_t *scratch, size_t scratch_len);
+
+/* Runs a rewritten script under its guideline, for at most `budget` steps: numbers 22, 23, 1 to 7, then 11 to 17. Leaves the last expression at
+ * the front of its buffer, the entries of history and log in theirs, 16 bytes each (time, function, view kind, view number), and the derived
+ * predicates in the table. */
+lorgwin_rewritten_run lorgwin_run_rewritten(const uint8_t *script, size_t script_len, const uint8_t *guideline, size_t guideline_len, uint32_t budget, uint8_t *expression, size_t expression_len, uint8_t *scratch, size_t scratch_len, uint8_t *history, size_t history_len, uint8_t *log, size_t log_len, uint8_t *table, size_t table_len);
+
+/* Rewrites a script into `out` and runs what was written, as lorgwin_rewrite and lorgwin_run_rewritten do in turn: numbers 22, 23, then those
+ * of lorgwin_rewrite, all tested before anything is written. */
+lorgwin_rewritten_run lorgwin_rehearse(const uint8_t *script, size_t script_len, const uint8_t *guideline, size_t guideline_len, uint32_t budget, uint8_t *out, size_t out_len, uint8_t *expression, size_t expression_len, uint8_t *scratch, size_t scratch_len, uint8_t *history, size_t history_len, uint8_t *log, size_t log_len, uint8_t *table, size_t table_len);
 
 #ifdef __cplusplus
 }

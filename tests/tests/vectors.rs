@@ -6,11 +6,17 @@ use std::collections::HashMap;
 
 const TABLE: usize = 8192;
 const BUFFER: usize = 24576;
+const OUT: usize = 8960;
+/// Expression, scratch, history, log and table.
+const SIZES: [usize; 5] = [BUFFER, BUFFER, 16384, 16384, TABLE];
+const LENGTHS: [&str; 5] = ["expr_len", "scratch_len", "history_len", "log_len", "table_len"];
 const OUTCOMES: [&str; 5] = ["value", "stuck", "spent", "large", "full"];
 /// Bytes lent past what an entry uses.
 const SPARE: usize = 96;
 
 type Fields = HashMap<String, String>;
+/// Number, place, outcome, steps, and the counts of history and log.
+type Words = [u32; 6];
 
 struct Vector {
     name: String,
@@ -37,7 +43,7 @@ fn vectors(entry: &str) -> Vec<Vector> {
             }
         }
     }
-    assert!(found.len() > 50, "{entry}: only {} vectors", found.len());
+    assert!(found.len() > 40, "{entry}: only {} vectors", found.len());
     found
 }
 
@@ -90,6 +96,10 @@ impl Vector {
         self.wanted.get("outcome").map_or(0, number)
     }
 
+    fn budget(&self) -> u32 {
+        self.given["budget"].parse().unwrap()
+    }
+
     /// Number and place.
     fn verdict(&self) -> (u32, u32) {
         (self.number("number"), self.number("place"))
@@ -103,6 +113,38 @@ impl Vector {
             table[at.parse::<usize>().unwrap()] = byte.parse().unwrap();
         }
         table
+    }
+
+    /// The words of a rewritten run.
+    fn words(&self) -> Words {
+        let (number, place) = self.verdict();
+        [number, place, self.outcome(), self.word("steps"), self.word("history_count"), self.word("log_count")]
+    }
+
+    /// The entries of history or log, 16 bytes each.
+    fn entries(&self, key: &str) -> Vec<u8> {
+        let entries = self.wanted[key].split(',').filter(|e| *e != "-");
+        entries.flat_map(|e| e.split(':')).flat_map(|n| n.parse::<u32>().unwrap().to_le_bytes()).collect()
+    }
+
+    /// The five buffers after a rewritten run that found this noise in them.
+    fn left(&self, before: &[Vec<u8>; 5]) -> [Vec<u8>; 5] {
+        if self.number("number") != 0 {
+            return before.clone();
+        }
+        let expression = bytes(&self.wanted["expression"]);
+        let used = [expression, Vec::new(), self.entries("history"), self.entries("log"), self.table()];
+        std::array::from_fn(|i| {
+            let mut new = used[i].clone();
+            new.resize(SIZES[i], 0);
+            over(&new, &before[i])
+        })
+    }
+
+    /// The name without what tells a plain run's from that of its rewritten run.
+    fn show(&self) -> &str {
+        let endings = [" (plain)", " plain run", " rewritten run"];
+        endings.iter().find_map(|e| self.name.strip_suffix(e)).unwrap_or(&self.name)
     }
 }
 
@@ -182,23 +224,152 @@ fn rewrite_vectors() {
     }
 }
 
+/// A plain run by one implementation of the entry: number, place, outcome, steps.
+fn runs_plain(v: &Vector, by: &str, run: impl Fn(&[u8], u32, &mut [u8], &mut [u8]) -> [u32; 4]) {
+    let before = [noise(v.len("expr_len", BUFFER)), noise(v.len("scratch_len", BUFFER))];
+    let [mut expression, mut scratch] = before.clone();
+    let found = run(&v.file("script"), v.budget(), &mut expression, &mut scratch);
+    let (number, place) = v.verdict();
+    assert_eq!(found, [number, place, v.outcome(), v.word("steps")], "{by} on {}", v.name);
+    let wanted = if number == 0 {
+        let mut last = bytes(&v.wanted["expression"]);
+        last.resize(BUFFER, 0);
+        [over(&last, &before[0]), over(&[0; BUFFER], &before[1])]
+    } else {
+        before
+    };
+    assert!(expression == wanted[0], "{by} on {}: the expression differs", v.name);
+    assert!(scratch == wanted[1], "{by} on {}: scratch differs", v.name);
+}
+
 #[test]
 fn plain_vectors() {
     for v in vectors("plain") {
-        let before = [noise(v.len("expr_len", BUFFER)), noise(v.len("scratch_len", BUFFER))];
-        let [mut expression, mut scratch] = before.clone();
-        let budget = v.given["budget"].parse().unwrap();
-        let found = engine::run_plain(&v.file("script"), budget, &mut expression, &mut scratch);
-        assert_eq!((found.number, found.place), v.verdict(), "{}", v.name);
-        assert_eq!((found.outcome, found.steps), (v.outcome(), v.word("steps")), "{}", v.name);
-        let wanted = if found.number == 0 {
-            let mut last = bytes(&v.wanted["expression"]);
-            last.resize(BUFFER, 0);
-            [over(&last, &before[0]), over(&[0; BUFFER], &before[1])]
-        } else {
-            before
+        runs_plain(&v, "the engine", |script, budget, e, s| {
+            let found = engine::run_plain(script, budget, e, s);
+            [found.number, found.place, found.outcome, found.steps]
+        });
+        runs_plain(&v, "the model", |script, budget, e, s| {
+            let (verdict, outcome, steps) = model::run_plain(script, budget.into(), e, s);
+            [verdict.number, verdict.place, outcome, steps]
+        });
+    }
+}
+
+fn words(found: engine::RewrittenRun) -> Words {
+    [found.number, found.place, found.outcome, found.steps, found.history_count, found.log_count]
+}
+
+fn model_run(script: &[u8], guideline: &[u8], budget: u32, lent: [&mut [u8]; 5]) -> Words {
+    let [e, s, h, l, t] = lent;
+    let (verdict, outcome, steps, history, log) = model::run_rewritten(script, guideline, budget.into(), e, s, h, l, t);
+    [verdict.number, verdict.place, outcome, steps, history, log]
+}
+
+/// What the model's rewriting and then its rewritten run answer: the engine does both in one call. Budget and buffers must be in order.
+fn model_rehearsal(script: &[u8], guideline: &[u8], budget: u32, out: &mut [u8], lent: [&mut [u8]; 5]) -> Words {
+    let (verdict, records) = model::rewrite(script, guideline, out);
+    if verdict.number != 0 {
+        return [verdict.number, verdict.place, 0, 0, 0, 0];
+    }
+    model_run(&out[..8 * records as usize], guideline, budget, lent)
+}
+
+fn slices(buffers: &mut [Vec<u8>; 5]) -> [&mut [u8]; 5] {
+    buffers.each_mut().map(Vec::as_mut_slice)
+}
+
+/// Every byte of the five buffers.
+fn same(found: &[Vec<u8>; 5], wanted: &[Vec<u8>; 5], who: &str) {
+    for i in 0..5 {
+        assert!(found[i] == wanted[i], "{who}: {} differs", ["expression", "scratch", "history", "log", "table"][i]);
+    }
+}
+
+#[test]
+fn rewritten_vectors() {
+    for v in vectors("rewritten") {
+        let before: [Vec<u8>; 5] = std::array::from_fn(|i| noise(v.len(LENGTHS[i], SIZES[i])));
+        let (script, guideline) = (v.file("script"), v.file("guideline"));
+        let mut lent = before.clone();
+        let found = words(engine::run_rewritten(&script, &guideline, v.budget(), slices(&mut lent)));
+        assert_eq!(found, v.words(), "{}", v.name);
+        same(&lent, &v.left(&before), &v.name);
+        let mut lent = before.clone();
+        let found = model_run(&script, &guideline, v.budget(), slices(&mut lent));
+        assert_eq!(found, v.words(), "the model on {}", v.name);
+        same(&lent, &v.left(&before), &format!("the model on {}", v.name));
+    }
+}
+
+/// The shows of which there is a plain and a rewritten run, in one call: the rewritten script is the output. Then its refusals: a budget
+/// too large, each buffer and the output a byte too short.
+#[test]
+fn rehearsals() {
+    let plain = vectors("plain");
+    let mut seen = 0;
+    for v in vectors("rewritten") {
+        let Some(p) = plain.iter().find(|p| p.show() == v.show()) else { continue };
+        // A refused show is not always the same file twice.
+        if v.number("number") != 0 || p.number("number") != 0 {
+            continue;
+        }
+        assert_eq!(p.given["budget"], v.given["budget"], "{}", v.name);
+        let (script, guideline, budget) = (p.file("script"), v.file("guideline"), v.budget());
+        let rewritten = v.file("script");
+        let before = SIZES.map(|n| noise(n + SPARE));
+        let (mut lent, mut out) = (before.clone(), noise(OUT + SPARE));
+        let found = words(engine::rehearse(&script, &guideline, budget, &mut out, slices(&mut lent)));
+        assert_eq!(found, v.words(), "{}", v.name);
+        same(&lent, &v.left(&before), &v.name);
+        assert!(out == over(&rewritten, &noise(OUT + SPARE)), "{}: the output differs", v.name);
+
+        let refused = |number: u32, budget: u32, lengths: [usize; 5], out_len: usize| {
+            let before = lengths.map(noise);
+            let (mut lent, mut out) = (before.clone(), noise(out_len));
+            let found = words(engine::rehearse(&script, &guideline, budget, &mut out, slices(&mut lent)));
+            assert_eq!(found, [number, 0, 0, 0, 0, 0], "{}", v.name);
+            same(&lent, &before, &v.name);
+            assert!(out == noise(out_len), "{}: a refusal altered the output", v.name);
         };
-        assert!(expression == wanted[0], "{}: the expression differs", v.name);
-        assert!(scratch == wanted[1], "{}: scratch differs", v.name);
+        refused(22, 1_000_001, [0; 5], 0);
+        for i in 0..5 {
+            let mut lengths = SIZES;
+            lengths[i] -= 1;
+            refused(23, budget, lengths, 0);
+        }
+        refused(21, budget, SIZES, rewritten.len() - 1);
+        seen += 1;
+    }
+    assert!(seen > 90, "only {seen} shows");
+}
+
+/// What the listing prints of an answer and the log: its entries, then outcome and steps; a refusal's number and place.
+fn listed(words: Words, log: &[u8]) -> String {
+    let [number, place, outcome, steps, _, count] = words;
+    if number != 0 {
+        return format!("{number}:{place}");
+    }
+    let word = |b: &[u8]| u32::from_le_bytes(b.try_into().unwrap()).to_string();
+    let entry = |e: &[u8]| e.chunks(4).map(word).collect::<Vec<_>>().join(":");
+    let mut lines: Vec<String> = log.chunks(16).take(count as usize).map(entry).collect();
+    lines.push(format!("{}:{steps}", OUTCOMES[outcome as usize]));
+    lines.join(",")
+}
+
+/// The listing's shows: what it prints, by the engine and by the model, and the same bytes in all six buffers.
+#[test]
+fn listing_vectors() {
+    for v in vectors("listing") {
+        let (script, guideline) = (v.file("script"), v.file("guideline"));
+        let (mut lent, mut out) = (SIZES.map(|n| noise(n + SPARE)), noise(OUT + SPARE));
+        let found = words(engine::rehearse(&script, &guideline, 1000, &mut out, slices(&mut lent)));
+        assert_eq!(listed(found, &lent[3]), v.wanted["text"], "{}", v.name);
+        let (mut other, mut file) = (SIZES.map(|n| noise(n + SPARE)), noise(OUT + SPARE));
+        let wanted = model_rehearsal(&script, &guideline, 1000, &mut file, slices(&mut other));
+        assert_eq!(listed(wanted, &other[3]), v.wanted["text"], "the model on {}", v.name);
+        assert_eq!(found, wanted, "{}", v.name);
+        same(&lent, &other, &v.name);
+        assert!(out == file, "{}: the output differs", v.name);
     }
 }

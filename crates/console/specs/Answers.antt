@@ -9,9 +9,13 @@ use Rattle.rewriting.specs.Answer as rewrites
 use Rattle.rewriting.specs.declared.Rewritten.{Rewritten}
 use Rattle.plain.specs.Answer as plains
 use Rattle.plain.specs.declared.PlainRun.{PlainRun}
+use Rattle.rewritten.specs.Answer as runs
+use Rattle.rewritten.specs.declared.RewrittenRun.{RewrittenRun}
+use Rattle.rehearsal.specs.Rehearsal as rehearsals
 use Rattle.console.specs.declared.VerdictWords.{VerdictWords}
 use Rattle.console.specs.declared.RewritingWords.{RewritingWords}
 use Rattle.console.specs.declared.PlainWords.{PlainWords}
+use Rattle.console.specs.declared.RewrittenWords.{RewrittenWords}
 
 -- Number and place.
 abbrev pub wordsOf : Verdict → VerdictWords
@@ -63,3 +67,34 @@ ranWords w e c = record { words = w; expression = e; scratch = c }
 
 abbrev pub plainRunWords : plains.After → RanWords
 plainRunWords a = ranWords (plainWords (a .answer)) (a .expression) (a .scratch)
+
+-- Number, place, the outcome's number and the counts of steps, history and log.
+abbrev pub rewrittenWords : RewrittenRun → RewrittenWords
+rewrittenWords r =
+    record { number = runs.numbersOf r .number; place = runs.numbersOf r .place; outcome = runs.numbersOf r .outcome; steps = runs.numbersOf r .steps; «history_count» = runs.numbersOf r .history; «log_count» = runs.numbersOf r .log }
+
+-- These words, and all five buffers as the rewritten run leaves them.
+pub record LoggedWords : Type 0 where
+  pub words : RewrittenWords
+  pub expression : List ℕ
+  pub scratch : List ℕ
+  pub history : List ℕ
+  pub log : List ℕ
+  pub table : List ℕ
+
+abbrev pub loggedWords : RewrittenWords → List ℕ → List ℕ → List ℕ → List ℕ → List ℕ → LoggedWords
+loggedWords w e c h l t = record { words = w; expression = e; scratch = c; history = h; log = l; table = t }
+
+abbrev pub rewrittenRunWords : runs.After → LoggedWords
+rewrittenRunWords a = loggedWords (rewrittenWords (a .answer)) (a .expression) (a .scratch) (a .history) (a .log) (a .table)
+
+-- The output as a rehearsal leaves it, with what its run leaves.
+pub record RehearsedWords : Type 0 where
+  pub out : List ℕ
+  pub run : LoggedWords
+
+abbrev pub rehearsesWords : List ℕ → LoggedWords → RehearsedWords
+rehearsesWords o w = record { out = o; run = w }
+
+abbrev pub rehearsalWords : rehearsals.After → RehearsedWords
+rehearsalWords a = rehearsesWords (a .out) (rewrittenRunWords (a .run))
