@@ -1,6 +1,6 @@
 -- The turns of the loops and the rows of stores, over plain variables. Assumes nothing.
 use mathlib.Core.Path.{_≡_, refl, sym, ap, _∙_}
-use mathlib.Core.List.{List, [], _∷_}
+use mathlib.Core.List.{List, [], _∷_, _++_}
 use mathlib.Core.Bool.{true, false}
 use Prim.Native.Nat.{ℕ, _+_, _-_, _/_, _%_, _<_, _≤_}
 use native.Mathlib.Omega.{arith}
@@ -8,10 +8,10 @@ use native.Mathlib.Nat.{add-zero, sub-zero}
 use native.Mathlib.Numerals.{towards-suc}
 use lib.ListN.{length, getD, set}
 use lib.Seq.{sets}
-use Rattle.words.specs.Bytes.{bytes, part, bytes-length, bytes-2, bytes-4, bytes-8, part-none, part-cons, part-snoc, part-length}
+use Rattle.words.specs.Bytes.{bytes, number, numberAt, part, AllBytes, bytes-length, bytes-2, bytes-4, bytes-8, part-none, part-cons, part-snoc, part-append, part-length, part-number}
 use Rattle.words.specs.Put.{put, put-none, put-sets, put-more, put-less, put-at-before, put-at-after}
 use Rattle.words.specs.Filled.{zeros, zeros-length, zeros-snoc}
-use Rattle.words.specs.Same.{sameBytes, same-next, same-here, same-self}
+use Rattle.words.specs.Same.{sameBytes, same-next, same-here, same-past, same-within, same-self}
 
 -- ---- a row of stores
 
@@ -61,6 +61,12 @@ module _ (xs : List ℕ) (i n : ℕ) (fits : i + n ≤ length xs) where
       let a : n - k ≡ n - m + 1 = omega arith in
       let b : i + k + 1 ≡ i + m = omega arith in
       ap (part xs (i + k)) a ∙ part-cons xs (i + k) (n - m) (omega arith) ∙ ap (λ (z : ℕ). getD xs (i + k) 0 ∷ part xs z (n - m)) b
+
+  part-steps : (k w m : ℕ) → m ≡ k + w → m ≤ n → part xs (i + k) (n - k) ≡ part xs (i + k) w ++ part xs (i + m) (n - m)
+  part-steps k w m e h =
+      let a : n - k ≡ w + (n - m) = omega arith in
+      let b : i + k + w ≡ i + m = omega arith in
+      ap (part xs (i + k)) a ∙ part-append xs (i + k) w (n - m) ∙ ap (λ (z : ℕ). part xs (i + k) w ++ part xs z (n - m)) b
 
   part-whole : part xs (i + 0) (n - 0) ≡ part xs i n
   part-whole = rw (add-zero i, sub-zero n)
@@ -115,3 +121,17 @@ module _ (a : List ℕ) (i : ℕ) (b : List ℕ) (j n : ℕ) (fits-a : i + n ≤
 
   pub same-end : (k : ℕ) → n ≤ k → Passed k → true ≡ sameBytes (part a i n) (part b j n)
   same-end k h p = sym (same-self []) ∙ rw (part-done a i n fits-a k h, part-done b j n fits-b k h) at p
+
+  -- eight bytes as one number, read as x and as y
+  module _ (k : ℕ) {x y : ℕ} (left : k + 8 ≤ n) (x-is : x ≡ numberAt 8 a (i + k)) (y-is : y ≡ numberAt 8 b (j + k)) where
+    pub same-more-8 : AllBytes a → AllBytes b → x ≡ y → Passed k → Passed (k + 8)
+    same-more-8 s t e p =
+        let q : part a (i + k) 8 ≡ part b (j + k) 8 = part-number a (i + k) b (j + k) 8 s t (omega arith) (omega arith) (sym x-is ∙ e ∙ y-is) in
+        sym (same-past (part a (i + k) 8) (part b (j + k) 8) (part a (i + (k + 8)) (n - (k + 8))) (part b (j + (k + 8)) (n - (k + 8))) q)
+        ∙ rw (sym (part-steps a i n fits-a k 8 (k + 8) refl left), sym (part-steps b j n fits-b k 8 (k + 8) refl left)) p
+
+    pub same-stop-8 : (x ≡ y → ⊥) → Passed k → false ≡ sameBytes (part a i n) (part b j n)
+    same-stop-8 d p =
+        let l : length (part a (i + k) 8) ≡ length (part b (j + k) 8) = part-length a (i + k) 8 (omega arith) ∙ sym (part-length b (j + k) 8 (omega arith)) in
+        sym (same-within (part a (i + k) 8) (part b (j + k) 8) (part a (i + (k + 8)) (n - (k + 8))) (part b (j + (k + 8)) (n - (k + 8))) l (λ e. d (x-is ∙ ap number e ∙ sym y-is)))
+        ∙ rw (sym (part-steps a i n fits-a k 8 (k + 8) refl left), sym (part-steps b j n fits-b k 8 (k + 8) refl left)) p

@@ -146,6 +146,11 @@ part-snoc xs i n h =
 pub bytes-part : (xs : List ℕ) (i w : ℕ) → AllBytes xs → i + w ≤ length xs → bytes w (numberAt w xs i) ≡ part xs i w
 bytes-part xs i w b h = rw (part-length xs i w h) at (bytes-number (part xs i w) (part-below xs i w b))
 
+-- ranges of bytes that have the same number are the same
+pub part-number : (xs : List ℕ) (i : ℕ) (ys : List ℕ) (j w : ℕ) → AllBytes xs → AllBytes ys → i + w ≤ length xs → j + w ≤ length ys
+    → numberAt w xs i ≡ numberAt w ys j → part xs i w ≡ part ys j w
+part-number xs i ys j w b c h k e = sym (bytes-part xs i w b h) ∙ ap (bytes w) e ∙ bytes-part ys j w c k
+
 -- ---- a number read byte by byte
 
 pub number-next : (w : ℕ) (xs : List ℕ) (i j : ℕ) → i < length xs → j ≡ i + 1 → numberAt (w + 1) xs i ≡ getD xs i 0 + 256 * numberAt w xs j

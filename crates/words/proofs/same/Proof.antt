@@ -1,10 +1,11 @@
--- `words::same` meets its contract. The first k bytes are the same, so the rest decides. Assumes nothing.
+-- `words::same` meets its contract. The first k bytes are the same, so the rest decides; eight bytes are the same where their numbers are. Assumes nothing.
 use Prim.Native.Nat.{_≤_, _-_, _+_}
-use mathlib.Core.Path.{_≡_}
+use mathlib.Core.Path.{_≡_, _∙_}
 use native.Mathlib.Omega.{arith}
 use Rattle.words.specs.Bytes.{part}
 use Rattle.words.specs.Same.{sameBytes}
-use Rattle.words.proofs.Laws.{same-start, same-more, same-stop, same-end}
+use Rattle.words.proofs.Laws.{same-start, same-more-8, same-stop-8}
+use borrow.Author.Needs.{needs}
 use Rattle.words.proofs.same.Statement.{statement}
 use Rattle.words.proofs.same.Tie as tie
 
@@ -17,20 +18,24 @@ abbrev μ-loop : tie.MeasureT-loop
 loop-holds : tie.Need-loop-holds Inv-loop μ-loop
 loop-holds c = (omega arith, same-start _ _ _ _ _ (omega arith) (omega arith))
 
-add-if1 : tie.Need-add-if1 Inv-loop μ-loop
-add-if1 c = omega arith
+sub-loop : tie.Need-sub-loop Inv-loop μ-loop
+sub-loop c = omega arith
 
-shared-slice-read-if1 : tie.Need-shared-slice-read-if1 Inv-loop μ-loop
-shared-slice-read-if1 c = omega arith
+add-get-u64 : tie.Need-add-get-u64 Inv-loop μ-loop
+add-get-u64 c = omega arith
 
-add-if1-2 : tie.Need-add-if1-2 Inv-loop μ-loop
-add-if1-2 c = omega arith
+get-u64-requires : tie.Need-get-u64-requires Inv-loop μ-loop
+get-u64-requires c κs = search needs
 
-shared-slice-read-if1-2 : tie.Need-shared-slice-read-if1-2 Inv-loop μ-loop
-shared-slice-read-if1-2 c = omega arith
+add-get-u64-2 : tie.Need-add-get-u64-2 Inv-loop μ-loop
+add-get-u64-2 c = omega arith
+
+get-u64-requires-2 : tie.Need-get-u64-requires-2 Inv-loop μ-loop
+get-u64-requires-2 c κs = search needs
 
 returns : tie.Need-returns Inv-loop μ-loop
-returns c = same-stop _ _ _ _ _ (omega arith) (omega arith) _ (omega arith) (c .if1 .taken) (c .before .before .before .before .loop .inv .1)
+returns c =
+    same-stop-8 _ _ _ _ _ (omega arith) (omega arith) _ (omega arith) (c .before .before .get-u64 .ensures) (c .before .get-u642 .ensures) (c .if1 .taken) (c .before .before .before .before .loop .inv .1)
 
 add-k : tie.Need-add-k Inv-loop μ-loop
 add-k c = omega arith
@@ -39,10 +44,26 @@ loop-less : tie.Need-loop-less Inv-loop μ-loop
 loop-less c = omega arith
 
 loop-again : tie.Need-loop-again Inv-loop μ-loop
-loop-again c = (omega arith, same-more _ _ _ _ _ (omega arith) (omega arith) _ (omega arith) (c .if1 .left) (c .before .before .before .before .loop .inv .1))
+loop-again c = (
+  omega arith,
+  same-more-8 _ _ _ _ _ (omega arith) (omega arith) _ (omega arith) (c .before .before .get-u64 .ensures) (c .before .get-u642 .ensures)
+      (λ i. omega (arith, c .before .before .before .before .before .before .shared-slice-known .given i)) (λ i. omega (arith, c .before .before .before .before .before .shared-slice-known2 .given i)) (c .if1 .left) (c .before .before .before .before .loop .inv .1),
+)
+
+add-same-tail : tie.Need-add-same-tail Inv-loop μ-loop
+add-same-tail c = omega arith
+
+add-same-tail-2 : tie.Need-add-same-tail-2 Inv-loop μ-loop
+add-same-tail-2 c = omega arith
+
+sub-same-tail : tie.Need-sub-same-tail Inv-loop μ-loop
+sub-same-tail c = omega arith
+
+same-tail-requires : tie.Need-same-tail-requires Inv-loop μ-loop
+same-tail-requires c κs = search needs
 
 returns-2 : tie.Need-returns-2 Inv-loop μ-loop
-returns-2 c = same-end _ _ _ _ _ (omega arith) (omega arith) _ (omega arith) (c .before .loop .inv .1)
+returns-2 c = c .same-tail .ensures ∙ c .before .before .loop .inv .1
 
 pub same-spec : {M : Type 1} → statement M
 same-spec =
@@ -51,12 +72,17 @@ same-spec =
     Inv-loop
     μ-loop
     loop-holds
-    add-if1
-    shared-slice-read-if1
-    add-if1-2
-    shared-slice-read-if1-2
+    sub-loop
+    add-get-u64
+    get-u64-requires
+    add-get-u64-2
+    get-u64-requires-2
     returns
     add-k
     loop-less
     loop-again
+    add-same-tail
+    add-same-tail-2
+    sub-same-tail
+    same-tail-requires
     returns-2)
