@@ -1,10 +1,14 @@
 //! Seeded cases: valid scripts and guidelines, rewritten scripts and scripts with other commands,
-//! damaged files, budgets and lengths of buffers. The same seed gives the same case.
+//! damaged files, long histories, budgets and lengths of buffers. The same seed gives the same case.
 
+mod commands;
 mod guidelines;
+mod histories;
 mod scripts;
 
+pub use commands::{commands, damage_command};
 pub use guidelines::guideline;
+pub use histories::{affordable, history};
 pub use scripts::script;
 
 use crate::{rewrite, BUDGET, EXPRESSION, HISTORY, LOG, SCRATCH, TABLE};
@@ -14,7 +18,7 @@ use std::collections::BTreeSet;
 pub struct Rng(pub u64);
 
 impl Rng {
-    fn word(&mut self) -> u64 {
+    pub fn word(&mut self) -> u64 {
         self.0 = self.0.wrapping_add(0x9e37_79b9_7f4a_7c15);
         let z = (self.0 ^ (self.0 >> 30)).wrapping_mul(0xbf58_476d_1ce4_e5b9);
         let z = (z ^ (z >> 27)).wrapping_mul(0x94d0_49bb_1331_11eb);
@@ -50,6 +54,9 @@ pub struct Case {
     pub script: Vec<u8>,
     pub guideline: Vec<u8>,
     pub budget: u64,
+    /// A budget with which the words of demand 3 can be tested, every choice of triggers to its
+    /// end: the same or a smaller one.
+    pub demand: u64,
     pub out: usize,
     pub expression: usize,
     pub scratch: usize,
@@ -59,38 +66,84 @@ pub struct Case {
 }
 
 impl Case {
-    /// A script as it is, rewritten under its guideline or another one, bad or with a bad
-    /// guideline.
+    /// A script as it is, rewritten under its guideline or another one, with commands made by
+    /// hand, bad or with a bad guideline.
     pub fn new(seed: u64) -> Case {
         let rng = &mut Rng(seed);
         let (mut script, mut guideline) = files(rng);
         let needed = rewritten(&script, &guideline).len();
-        let form = rng.below(16);
+        let form = rng.below(22);
         match form {
-            0..=3 | 8 | 11 => script = rewritten(&script, &guideline),
+            0..=3 | 8 | 11 | 18 => script = rewritten(&script, &guideline),
             4 => {
                 let other = self::guideline(rng, functions(&script), Counts::Valid);
                 script = rewritten(&script, &other);
             }
-            5 => script = self::script(rng, Counts::OneTooMany),
+            5 | 19 => script = self::script(rng, Counts::OneTooMany),
             _ => {}
         }
         match form {
-            6..=8 => damage(rng, &mut script, 8),
+            6 => damage(rng, &mut script, 8),
+            // More than one fault tells in which order they are tested.
+            7 | 8 => (0..rng.pick(&[1, 2, 3])).for_each(|_| damage(rng, &mut script, 8)),
+            20 => (0..3).for_each(|_| renumber(rng, &mut script, 8)),
             9 => guideline = self::guideline(rng, functions(&script), Counts::OneTooMany),
             10 | 11 => damage(rng, &mut guideline, 16),
+            21 => (0..rng.pick(&[2, 3])).for_each(|_| damage(rng, &mut guideline, 16)),
+            16 | 17 | 19 => script = commands(rng, &script),
             _ => {}
         }
+        match form {
+            17 | 18 => damage_command(rng, &mut script),
+            7 if rng.one_in(2) => damage(rng, &mut guideline, 16),
+            12 if rng.one_in(8) => script = noise(rng, 8),
+            12 if rng.one_in(8) => guideline = noise(rng, 16),
+            _ => {}
+        }
+        let budget = budget(rng, &script, &guideline);
+        Case::lent(rng, needed, script, guideline, budget, budget)
+    }
+
+    /// A show with a long history: as it is, rewritten, or with commands made by hand.
+    pub fn long(seed: u64) -> Case {
+        let rng = &mut Rng(seed);
+        let (mut script, guideline, steps) = history(rng);
+        let mut written = rewritten(&script, &guideline);
+        let needed = written.len();
+        let form = rng.below(8);
+        if form == 0 {
+            written = commands(rng, &script);
+        }
+        let within = |steps: u64, early: bool| {
+            affordable([&script, &written], &guideline, [steps, 1_000_000], early)
+        };
+        let budget = within(steps, true);
+        let demand = within(budget.min(20_000), false);
+        if form < 2 {
+            script = written;
+        }
+        Case::lent(rng, needed, script, guideline, budget, demand)
+    }
+
+    fn lent(
+        rng: &mut Rng,
+        needed: usize,
+        script: Vec<u8>,
+        guideline: Vec<u8>,
+        budget: u64,
+        demand: u64,
+    ) -> Case {
         Case {
-            budget: budget(rng, &script, &guideline),
+            script,
+            guideline,
+            budget,
+            demand,
             out: length(rng, needed),
             expression: length(rng, EXPRESSION),
             scratch: length(rng, SCRATCH),
             history: length(rng, HISTORY),
             log: length(rng, LOG),
             table: length(rng, TABLE),
-            script,
-            guideline,
         }
     }
 }
@@ -152,6 +205,25 @@ fn of_kind(rng: &mut Rng, file: &[u8], size: usize, kind: u8) -> Option<usize> {
     (!found.is_empty()).then(|| rng.pick(&found))
 }
 
+/// A file of noise, or a long one of records of any kinds and else zero.
+fn noise(rng: &mut Rng, size: usize) -> Vec<u8> {
+    if rng.one_in(2) {
+        let length = rng.below(20 * size);
+        return rng.bytes(length);
+    }
+    let mut file = vec![0; size * (1 + rng.below(20_000))];
+    let kinds = rng.pick(&[&[4, 5][..], &[1, 4, 5, 6], &[1, 2, 3, 4, 5, 6, 7, 8]]);
+    file.chunks_mut(size).for_each(|record| record[0] = rng.pick(kinds));
+    file
+}
+
+/// Gives a record another number, one at the edges of ranges.
+fn renumber(rng: &mut Rng, file: &mut [u8], size: usize) {
+    let at = place(rng, file, size);
+    let edges = [0, 1, 2, 3, 5, 127, 128, 1_023, 1_024, 65_535, 65_536, u32::MAX];
+    file[at + 4..at + 8].copy_from_slice(&rng.pick(&edges).to_le_bytes());
+}
+
 /// Damages a file of records of `size` bytes in one of many ways; it may stay valid.
 pub fn damage(rng: &mut Rng, file: &mut Vec<u8>, size: usize) {
     let count = file.len() / size;
@@ -183,10 +255,7 @@ pub fn damage(rng: &mut Rng, file: &mut Vec<u8>, size: usize) {
         }
         6 => file[at] = rng.below(10) as u8,
         7 | 8 => file[at + 1 + rng.below(3)] = rng.below(6) as u8,
-        9 | 10 => {
-            let edges = [0, 1, 2, 3, 5, 127, 128, 1_023, 1_024, 65_535, 65_536, u32::MAX];
-            file[at + 4..at + 8].copy_from_slice(&rng.pick(&edges).to_le_bytes());
-        }
+        9 | 10 => renumber(rng, file, size),
         _ => {
             let more = 1 + rng.below(2 * size);
             file.extend(rng.bytes(more));

@@ -1,11 +1,11 @@
-//! Guidelines, valid or with counts one too many and heads unbound.
+//! Guidelines, valid or with counts and numbers one too many and heads unbound.
 
 use super::{Counts, Rng};
 
-type Record = [u8; 16];
+pub(super) type Record = [u8; 16];
 
 /// Bytes 0 to 3 and the two numbers after them.
-fn record(small: [u8; 4], numbers: [u32; 2]) -> Record {
+pub(super) fn record(small: [u8; 4], numbers: [u32; 2]) -> Record {
     let mut record = [0; 16];
     record[..4].copy_from_slice(&small);
     record[4..8].copy_from_slice(&numbers[0].to_le_bytes());
@@ -15,15 +15,20 @@ fn record(small: [u8; 4], numbers: [u32; 2]) -> Record {
 
 /// A guideline for a script with this many functions.
 pub fn guideline(rng: &mut Rng, functions: usize, counts: Counts) -> Vec<u8> {
-    let mut out = facts(rng, counts);
+    let (mut out, atoms, variables): (_, _, &[u8]) = if rng.one_in(12) {
+        let closed = if rng.one_in(2) { closure() } else { vec![] };
+        ([graph(rng), closed].concat(), 2, &[0, 1, 2])
+    } else {
+        (facts(rng, counts), 4, &[0, 1, 2, 3])
+    };
     for _ in 0..rng.below(6) {
-        out.extend(rule(rng, counts));
+        out.extend(rule(rng, atoms, variables, counts));
     }
     if functions > 0 {
         let most = rng.pick(&[0, 1, 2, 4]);
         for _ in 0..count(rng, 8, counts) {
             let triggers = count(rng, most, counts);
-            out.extend(clause(rng, functions, triggers));
+            out.extend(clause(rng, functions, triggers, counts));
         }
     }
     // A fact may be repeated, up to 256 records in all.
@@ -62,14 +67,31 @@ fn facts(rng: &mut Rng, counts: Counts) -> Vec<Record> {
     (0..rng.pick(&[0, 4, 8, 16, 40])).map(|_| fact(rng)).collect()
 }
 
+/// Facts among up to 64 values, so many that rules derive most of the others; rules for them have
+/// few variables, or else the plain joins take too long.
+fn graph(rng: &mut Rng) -> Vec<Record> {
+    let values = 2 + rng.below(63);
+    let fact = |rng: &mut Rng| {
+        let [a, b] = [0; 2].map(|_| rng.below(values) as u32);
+        let [k, l] = [a, b].map(|value| 2 + (value % 3) as u8);
+        record([1, rng.pick(&[0, 0, 1]), k, l], [a / 3, b / 3])
+    };
+    (0..values + rng.below(values)).map(|_| fact(rng)).collect()
+}
+
+/// Predicate 1 of all values that predicate 0 leads to by some steps and 1 by the last.
+pub(super) fn closure() -> Vec<Record> {
+    [[2, 1, 0, 2], [3, 0, 0, 1], [3, 1, 1, 2]].map(|small| record(small, [0, 0])).into()
+}
+
 /// A head and its atoms.
-fn rule(rng: &mut Rng, counts: Counts) -> Vec<Record> {
+fn rule(rng: &mut Rng, most: usize, variables: &[u8], counts: Counts) -> Vec<Record> {
     let atom = |rng: &mut Rng, kind: u8, variables: &[u8]| {
         let places = [0; 2].map(|_| rng.pick(variables));
         record([kind, predicate(rng), places[0], places[1]], [0, 0])
     };
-    let atoms = count(rng, 4, counts).max(1);
-    let mut rule: Vec<Record> = (0..atoms).map(|_| atom(rng, 3, &[0, 1, 2, 3])).collect();
+    let atoms = count(rng, most, counts).max(1);
+    let mut rule: Vec<Record> = (0..atoms).map(|_| atom(rng, 3, variables)).collect();
     let mut variables: Vec<u8> = rule.iter().flat_map(|atom| [atom[2], atom[3]]).collect();
     if counts == Counts::OneTooMany && rng.one_in(8) {
         variables = vec![0, 1, 2, 3];
@@ -79,8 +101,12 @@ fn rule(rng: &mut Rng, counts: Counts) -> Vec<Record> {
 }
 
 /// A head, its triggers and its conditions.
-fn clause(rng: &mut Rng, functions: usize, triggers: usize) -> Vec<Record> {
-    let name = |rng: &mut Rng, kind: u8| record([kind, 0, 0, 0], [rng.below(functions) as u32, 0]);
+fn clause(rng: &mut Rng, functions: usize, triggers: usize, counts: Counts) -> Vec<Record> {
+    let above = |rng: &mut Rng| usize::from(counts == Counts::OneTooMany && rng.one_in(12));
+    let name = |rng: &mut Rng, kind: u8| {
+        let any = functions + above(rng);
+        record([kind, 0, 0, 0], [rng.below(any) as u32, 0])
+    };
     let mut clause = vec![name(rng, 4)];
     clause.extend((0..triggers).map(|_| name(rng, 5)));
     for _ in 0..rng.pick(&[0, 0, 1, 2, 3, 6]) {
@@ -90,7 +116,8 @@ fn clause(rng: &mut Rng, functions: usize, triggers: usize) -> Vec<Record> {
             7 => predicate(rng),
             _ => rng.below(2) as u8,
         };
-        let [i, j] = [0; 2].map(|_| rng.below(triggers.min(4) + 1) as u8);
+        let any = (triggers + above(rng)).min(4) + 1;
+        let [i, j] = [0; 2].map(|_| rng.below(any) as u8);
         clause.push(record([kind, first, i, j], [0, 0]));
     }
     clause

@@ -1,0 +1,222 @@
+//! Shows with long histories: scripts that call a few functions many times on few arguments, and
+//! guidelines whose clauses have triggers.
+
+use super::guidelines::{closure, record, Record};
+use super::Rng;
+use crate::demand::calls;
+use crate::guideline::Clause;
+use crate::predicates::Predicates;
+use crate::read;
+use crate::runs::{choose, Call};
+use crate::script::{push, Commands};
+use std::cell::Cell;
+
+/// The kind and number of a closed value.
+type Value = (u8, u32);
+
+/// A valid script without commands, a valid guideline for it, and how many steps are worth making.
+pub fn history(rng: &mut Rng) -> (Vec<u8>, Vec<u8>, u64) {
+    let mut values = Vec::new();
+    for _ in 0..rng.pick(&[2, 3, 4]) {
+        values.push((rng.pick(&[2, 3, 3, 4]), rng.below(2) as u32));
+    }
+    let mut show = Show { rng, values, out: Vec::new() };
+    let (named, steps) = match show.rng.below(18) {
+        0 => show.growth(),
+        1..=6 => show.tree(),
+        _ => show.turns(),
+    };
+    let Show { rng, values, out } = show;
+    (out, guideline(rng, named, &values), steps)
+}
+
+/// Writes a script over few values; the functions 0 and 1 are always defined.
+struct Show<'a> {
+    rng: &'a mut Rng,
+    values: Vec<Value>,
+    out: Vec<u8>,
+}
+
+impl Show<'_> {
+    /// Each function calls those after it, so that the calls of the last are many and the run ends.
+    /// Returns how many functions the guideline may name, and the steps: where there are many
+    /// functions it names the first, whose calls are few and late.
+    fn tree(&mut self) -> (usize, u64) {
+        let high = self.rng.one_in(16);
+        let functions = if high { 16 } else { 4 + self.rng.below(7) };
+        for number in 0..functions {
+            push(&mut self.out, 8, number as u32);
+            if number + 1 == functions {
+                self.leaf(1);
+                continue;
+            }
+            let next = |more: usize| (number + more).min(functions - 1);
+            let more = if high { 1 } else { self.rng.pick(&[1, 1, 1, 2]) };
+            self.sequence(&[next(1), next(more)], 1);
+        }
+        let from = self.rng.below(2);
+        self.sequence(&[0, 0][from..], 0);
+        if high {
+            return (4, 100_000);
+        }
+        (functions, 5_000)
+    }
+
+    /// Functions that main alone calls, functions that each turn calls; one to three more begin a
+    /// turn, one after the other and without end. Returns the same as `tree`: where the guideline
+    /// names only what main calls, short turns go on for long.
+    fn turns(&mut self) -> (usize, u64) {
+        let called = 2 + self.rng.below(4);
+        let once = self.rng.below(called);
+        let loops = 1 + self.rng.below(3);
+        for number in 0..called {
+            push(&mut self.out, 8, number as u32);
+            match self.rng.below(5) {
+                0 if number + 1 < called => self.sequence(&[number + 1], 1),
+                _ => self.leaf(1),
+            }
+        }
+        for turn in 0..loops {
+            push(&mut self.out, 8, (called + turn) as u32);
+            let length = self.rng.pick(&[1, 2, 4, 8, 24]);
+            let each = |_| once + self.rng.below(called - once);
+            let mut turns: Vec<usize> = (0..length).map(each).collect();
+            turns.push(called + (turn + 1) % loops);
+            self.sequence(&turns, 1);
+        }
+        let length = self.rng.pick(&[0, 2, 6, 12]);
+        let mut before: Vec<usize> = (0..length).map(|_| self.rng.below(called)).collect();
+        before.push(called);
+        self.sequence(&before, 0);
+        if once > 0 && self.rng.one_in(8) {
+            return (once, if self.out.len() < 8 * 80 { 30_000 } else { 3_000 });
+        }
+        (called + loops, self.rng.pick(&[1_000, 3_000, 9_000]))
+    }
+
+    /// A function that calls itself on a value one record longer, after some calls of another: the
+    /// history is full a few calls before the expression is large, a few after, or with it.
+    fn growth(&mut self) -> (usize, u64) {
+        push(&mut self.out, 8, 0);
+        self.leaf(1);
+        for (kind, number) in [(8, 1), (5, 0), (2, 1), (4, 0), (1, 1)] {
+            push(&mut self.out, kind, number);
+        }
+        let mut calls = vec![0; self.rng.below(8)];
+        calls.push(1);
+        self.sequence(&calls, 0);
+        (2, 1_100)
+    }
+
+    /// Calls these functions in turn.
+    fn sequence(&mut self, functions: &[usize], around: usize) {
+        push(&mut self.out, 5, 0);
+        if functions.len() > 1 {
+            push(&mut self.out, 4, self.rng.below(6) as u32);
+            self.sequence(&functions[1..], around + 1);
+            push(&mut self.out, 5, 0);
+        }
+        push(&mut self.out, 2, functions[0] as u32);
+        self.leaf(around);
+    }
+
+    /// A value, the definition's parameter, or what the call before returned.
+    fn leaf(&mut self, around: usize) {
+        match self.rng.below(6) {
+            0 if around > 0 => push(&mut self.out, 1, 0),
+            1 if around > 0 => push(&mut self.out, 1, around as u32 - 1),
+            _ => {
+                let (kind, number) = self.rng.pick(&self.values);
+                push(&mut self.out, kind, number);
+                if kind == 4 {
+                    push(&mut self.out, 1, 0);
+                }
+            }
+        }
+    }
+}
+
+/// Facts on the script's values and one more, at times a closure, and one to three clauses.
+fn guideline(rng: &mut Rng, functions: usize, values: &[Value]) -> Vec<u8> {
+    let mut out = Vec::new();
+    let known = [values, &[(3, 9)]].concat();
+    for _ in 0..rng.below(8) {
+        let [(k, m), (l, n)] = [0; 2].map(|_| rng.pick(&known));
+        out.push(record([1, rng.below(2) as u8, k, l], [m, n]));
+    }
+    if rng.one_in(2) {
+        out.extend(closure());
+    }
+    for _ in 0..rng.pick(&[1, 1, 2, 3]) {
+        let triggers = 1 + rng.below(4);
+        out.extend(clause(rng, functions, triggers));
+    }
+    out.concat()
+}
+
+/// Conditions that each name two calls of the clause and are true of some.
+fn clause(rng: &mut Rng, functions: usize, triggers: usize) -> Vec<Record> {
+    let name = |rng: &mut Rng, kind: u8| record([kind, 0, 0, 0], [rng.below(functions) as u32, 0]);
+    let mut clause = vec![name(rng, 4)];
+    clause.extend((0..triggers).map(|_| name(rng, 5)));
+    for _ in 0..rng.pick(&[0, 1, 2, 2, 3, 4]) {
+        let later = 1 + rng.below(triggers);
+        let [i, j] = [rng.below(later) as u8, later as u8];
+        let exchanged = rng.one_in(4);
+        clause.push(match rng.below(4) {
+            0 if i == 0 || exchanged => record([6, 0, j, i], [0, 0]),
+            0 => record([6, 0, i, j], [0, 0]),
+            1 if exchanged => record([7, rng.below(2) as u8, j, i], [0, 0]),
+            1 => record([7, rng.below(2) as u8, i, j], [0, 0]),
+            _ => record([8, rng.below(2) as u8, i, j], [0, 0]),
+        });
+    }
+    clause
+}
+
+/// The most steps, `most` or fewer, in which the searches for triggers look at about `work` calls
+/// in all; they test a condition as soon as they can (`early`), or only on a whole choice. A step
+/// more than it takes to report a full history is enough. The run is that of `written`, which is
+/// the script with commands.
+pub fn affordable(
+    [script, written]: [&[u8]; 2],
+    guideline: &[u8],
+    [most, work]: [u64; 2],
+    early: bool,
+) -> u64 {
+    let Ok((script, guideline)) = read(script, Commands::Refused, guideline) else { return 0 };
+    let predicates = Predicates::of(&guideline);
+    let has = |kind: u8, function: u32| {
+        let named = |record: &[u8]| record[0] == kind && record[4..] == function.to_le_bytes();
+        written.chunks(8).any(named)
+    };
+    let mut calls = calls(&script, most);
+    calls.retain(|call| has(6, call.function));
+    let left = Cell::new(work);
+    for (last, call) in calls.iter().enumerate() {
+        if last == 1_024 {
+            return u64::from(call.time) + 1;
+        }
+        let logged = |clause: &&Clause| clause.function == call.function && has(7, call.function);
+        for clause in guideline.clauses.iter().filter(logged) {
+            let fits = |chosen: &[Call]| {
+                let whole = chosen.len() > clause.triggers.len();
+                left.set(left.get().saturating_sub(if whole { 1 } else { last as u64 }));
+                let mut due = clause.conditions.iter().filter(|condition| {
+                    let level = condition.i.max(condition.j);
+                    if early {
+                        level + 1 == chosen.len()
+                    } else {
+                        whole
+                    }
+                });
+                left.get() > 0 && due.all(|condition| condition.holds(chosen, &predicates))
+            };
+            choose(&clause.triggers, &calls[..last], &fits, &mut vec![*call]);
+        }
+        if left.get() == 0 {
+            return call.time.into();
+        }
+    }
+    most
+}
