@@ -110,9 +110,10 @@ impl Case {
         let (mut script, guideline, steps) = history(rng);
         let mut written = rewritten(&script, &guideline);
         let needed = written.len();
+        let by_hand = commands(rng, &script);
         let form = rng.below(8);
-        if form == 0 {
-            written = commands(rng, &script);
+        if form == 0 && by_hand != script {
+            written = by_hand;
         }
         let within = |steps: u64, early: bool| {
             affordable([&script, &written], &guideline, [steps, 1_000_000], early)

@@ -94,12 +94,8 @@ impl Seen {
         model: impl FnOnce([&mut [u8]; N]) -> Words,
     ) -> (Words, [Buffer; N]) {
         let [mut found, mut wanted] = [lent.clone(), lent.clone()];
-        let t0 = std::time::Instant::now();
         let words = engine(found.each_mut().map(Buffer::lent));
-        let t1 = std::time::Instant::now();
         assert_eq!(words, model(wanted.each_mut().map(Buffer::lent)), "{what}: the engine's answer and the model's");
-        self.add(&format!("us engine {}", what.split(' ').next().unwrap()), (t1-t0).as_micros() as u64);
-        self.add(&format!("us model {}", what.split(' ').next().unwrap()), t1.elapsed().as_micros() as u64);
         for i in 0..N {
             let mut bytes = found[i].bytes.iter().zip(&wanted[i].bytes);
             let differs = bytes.position(|(one, two)| one != two).map(|at| at as isize - found[i].from as isize);
@@ -298,11 +294,9 @@ impl Files {
         }
         let (script, guideline) = self.read();
         let ended = Ended { outcome, steps, expression: expression.read(), log: &log.read()[..16 * logged as usize] };
-        let t0 = std::time::Instant::now();
         let holds = demand_3(script, guideline, budget.into(), &ended);
         assert_eq!(holds, Ok(()), "demand 3 of the engine's run with budget {budget}");
         seen.add("demand 3 tested", 1);
-        seen.add("us demand", t0.elapsed().as_micros() as u64);
         seen.add_if("demand 3 tested, log not empty", logged > 0);
         seen.add_if("demand 3 tested, history over 100", noted > 100);
         seen.add_if("demand 3 tested, history full", outcome == FULL);
@@ -467,16 +461,11 @@ fn seeded_cases() {
             if number >= end {
                 return Ok(seen);
             }
-            let t00 = std::time::Instant::now();
             let (case, rng) = &mut case(seed, number);
-            seen.add("us generate", t00.elapsed().as_micros() as u64);
             if !agree(&format!("case {number} of seed {seed}"), case, rng, &mut seen) {
                 next.store(end, Ordering::Relaxed);
                 return Err(number);
             }
-            let us = t00.elapsed().as_micros() as u64;
-            seen.add(&format!("us {} {}", if number % LONG == LONG-1 {"long"} else {"new"}, if us > 300_000 {"> 300 ms"} else if us > 50_000 {"> 50 ms"} else if us > 10_000 {"> 10 ms"} else {"less"}), us);
-            if us > 50_000 { println!("SLOW {number} {us} budget {} demand {} script {}", case.budget, case.demand, case.script.len()/8); }
         }
     };
     let found: Vec<Result<Seen, u64>> = thread::scope(|scope| {

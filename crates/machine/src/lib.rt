@@ -166,8 +166,8 @@ pub fn fits(
     ensures { λ x. ⌜ FitsIs (step (codeIn (now (script .entry))) (wholeIn (now (e .entry)) l r)) x ⌝ }
 {
     let end = zipper::end_of(e, r);
-    let room = 8 * (1024 - (p + (3072 - end)));
-    match reduce(e, p, 8 * r, 8 * end, script, bodies, scratch, st, room) {
+    let most = 8 * (1024 - (p + (3072 - end)));
+    match reduce(e, p, 8 * r, 8 * end, script, bodies, scratch, st, most) {
         Substituted::Done(_) => true,
         Substituted::Full => false,
     }

@@ -14,20 +14,20 @@ end-of-requires : tie.Need-end-of-requires
 end-of-requires c κs = search needs
 
 -- src/lib.rt:169:34
-sub-room : tie.Need-sub-room
-sub-room c = let f = numbers ((c .before .before .before .before .before .before .pre) .0) ((c .before .before .before .before .before .before .pre) .1 .0) _ ((c .end-of) .ensures) in omega arith
+sub-most : tie.Need-sub-most
+sub-most c = let f = numbers ((c .before .before .before .before .before .before .pre) .0) ((c .before .before .before .before .before .before .pre) .1 .0) _ ((c .end-of) .ensures) in omega arith
 
 -- src/lib.rt:169:29
-add-room : tie.Need-add-room
-add-room c = let f = numbers ((c .before .before .before .before .before .before .pre) .0) ((c .before .before .before .before .before .before .pre) .1 .0) _ ((c .end-of) .ensures) in omega arith
+add-most : tie.Need-add-most
+add-most c = let f = numbers ((c .before .before .before .before .before .before .pre) .0) ((c .before .before .before .before .before .before .pre) .1 .0) _ ((c .end-of) .ensures) in omega arith
 
 -- src/lib.rt:169:21
-sub-room-2 : tie.Need-sub-room-2
-sub-room-2 c = let f = numbers ((c .before .before .before .before .before .before .pre) .0) ((c .before .before .before .before .before .before .pre) .1 .0) _ ((c .end-of) .ensures) in omega arith
+sub-most-2 : tie.Need-sub-most-2
+sub-most-2 c = let f = numbers ((c .before .before .before .before .before .before .pre) .0) ((c .before .before .before .before .before .before .pre) .1 .0) _ ((c .end-of) .ensures) in omega arith
 
 -- src/lib.rt:169:16
-mul-room : tie.Need-mul-room
-mul-room c = search needs
+mul-most : tie.Need-mul-most
+mul-most c = search needs
 
 -- src/lib.rt:170:24
 mul-reduce : tie.Need-mul-reduce
@@ -81,10 +81,10 @@ fits-spec =
     tie.close
     (tie.spec
     end-of-requires
-    sub-room
-    add-room
-    sub-room-2
-    mul-room
+    sub-most
+    add-most
+    sub-most-2
+    mul-most
     mul-reduce
     mul-reduce-2
     reduce-requires
