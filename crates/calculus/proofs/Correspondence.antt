@@ -20,12 +20,12 @@ use Rattle.calculus.specs.Trace.{Sequence, Configuration, Traces, first,
 use Rattle.calculus.specs.Trace.Sequence.{alone, then}
 use Rattle.calculus.specs.Log.{Conf, State, at, noteCall, emitCall, tick, fresh}
 use Rattle.calculus.specs.LogRules.{Runs, LogTraces}
-use Rattle.calculus.specs.LogRules.Runs.{Λcall, Precondition, Log, NoLog}
+use Rattle.calculus.specs.LogRules.Runs.{Λcall, Precondition}
 use Rattle.calculus.specs.Correspondence.{Ends, Corresponds, SemanticsPreserving}
 use Rattle.calculus.proofs.Steps.{not-stuck-next}
-use Rattle.calculus.proofs.Rules.{contractCall, contract, Becomes, becomes-ready, becomes-unique, Apart, apart, apart-here, apart-within, apart-hole}
+use Rattle.calculus.proofs.Rules.{contractCall, contract, Becomes, becomes-ready, becomes-unique, apart-hole}
 use Rattle.calculus.proofs.Rules.Becomes.{contracted, noted, emitted}
-use Rattle.calculus.proofs.LogRules.{Runs∗, then-runs, context-runs, trace-runs, emit-runs}
+use Rattle.calculus.proofs.LogRules.{Runs∗, then-runs, context-runs, trace-runs, emit-runs, log-apart}
 use Rattle.calculus.proofs.Demand3.{rewritten-codebase, codebase-bare}
 
 -- ---- where traces begin
@@ -120,18 +120,10 @@ plug-bare (argument v s E) m p = let (x, y) = plug-bare E m (p .1) in (x, λ r q
 
 -- ---- from the target to the source
 
--- A step of Λlog taken apart.
-log-apart : {G : Guideline} {C : Codebase} {κ κ′ : Conf} → Runs G C κ κ′ → (ev : Event) × Apart C (κ .expr) ev (κ′ .expr)
-log-apart (Λcall {ev = ev} r h k) = (ev, apart r)
-log-apart Precondition = (quiet, apart-here noted)
-log-apart (Log h) = (quiet, apart-here emitted)
-log-apart (NoLog h) = (quiet, apart-here emitted)
-log-apart (Runs.context E r h h′) = let (ev, d) = log-apart r in (ev, apart-within E h h′ d)
-
 -- A step from a command in a context takes that command away.
 step-command : {G : Guideline} {C : Codebase} {κ κ′ : Conf} (E : Context) (m r : Term) → Becomes C m quiet r → κ .expr ≡ plug E m → Runs G C κ κ′ → κ′ .expr ≡ plug E r
 step-command E m r b h one =
-    let (ev, d) = log-apart one in
+    let (ev, d, c) = log-apart one in
     let (x, b′, k) = apart-hole E m (becomes-ready b) h d in
     k ∙ ap (plug E) (becomes-unique b′ b .1)
 
@@ -204,7 +196,7 @@ module _ (G : Guideline) (C : Codebase) (code : BareCode C) (e : Term) where
 
   -- The source follows each step of the target, …
   follows-on : {τ : Sequence Conf} {κ : Conf} → Follows τ → Runs G (rewrittenCode G C) (last τ) κ → Follows (then τ κ)
-  follows-on (level c) one = let (ev, d) = log-apart one in follows-step (d .around) (d .hole) (d .result) (d .becomes) c (d .before) (d .after)
+  follows-on (level c) one = let (ev, d, c′) = log-apart one in follows-step (d .around) (d .hole) (d .result) (d .becomes) c (d .before) (d .after)
   follows-on (noting E f v r c h c′) one = level-at (step-command E (callEvent f v r) r noted h one) c′
   follows-on (notingLogged E f v r c h c′) one = emitting E f v r c (step-command E (callEvent f v (emit f v r)) (emit f v r) noted h one) c′
   follows-on (emitting E f v r c h c′) one = level-at (step-command E (emit f v r) r emitted h one) c′

@@ -1,15 +1,15 @@
 -- Demand 3 on trees. Assumes nothing.
 use mathlib.Core.Bool.{Bool, true, false, _&&_}
-use mathlib.Core.List.{List, [], _∷_, _++_, append-nil, List·Memᴰ, List·Memᴰ·head, List·Memᴰ·tail, List·Memᴰ·not-nil}
+use mathlib.Core.List.{List, [], _∷_, _++_, append-nil, List·Memᴰ, List·Memᴰ·head, List·Memᴰ·tail, List·Memᴰ·not-nil, Memᴰ·append-right}
 use mathlib.Core.Logic.{_↔_, _⊎_, inl, inr, _≢_}
 use mathlib.Core.Option.{some}
 use mathlib.Core.Path.{_≡_, refl, sym, ap, _∙_, fun-ext}
 use native.Mathlib.Omega.{arith}
 use Prim.Native.Nat.{ℕ, zero, suc, _+_, _≤_, _<_}
-use lib.Dec.{leb, leb→le, nleb→lt}
+use lib.Dec.{leb, ltb, leb→le, nleb→lt}
 use lib.ListN.{length, length-append}
 use Rattle.calculus.specs.Lists.{keep, each}
-use Rattle.calculus.specs.Term.{Term, Codebase, Program, size, bodies, codebase, Bare, BareCode, BareProgram}
+use Rattle.calculus.specs.Term.{Term, Codebase, Program, records, size, bodies, codebase, Bare, BareCode, BareProgram}
 use Rattle.calculus.specs.Term.Term.{var, fun, con, lam, app, callEvent, emit}
 use Rattle.calculus.specs.Step.{Event, Next, step}
 use Rattle.calculus.specs.Step.Event.{quiet, calls}
@@ -22,10 +22,11 @@ use Rattle.calculus.specs.Run.Outcome.{value, stuck, spent, large, full}
 use Rattle.calculus.specs.Run.Tick.{halt, stop, go}
 use Rattle.calculus.specs.Log as L
 use Rattle.calculus.specs.Claim.{entries, callsBelow, isNoted, Rising, Full, Faithful, Demand3}
-use Rattle.calculus.proofs.Lists.{T-true, true-T, and-both, keep-into, keep-from, each-append}
+use Rattle.calculus.proofs.Lists.{T-true, true-T, and-both, keep-keep, keep-into, keep-from, each-append}
 use Rattle.calculus.proofs.Entailment.{entails-decides, entails-map}
+use Rattle.calculus.proofs.Size.{bare-size}
 use Rattle.calculus.proofs.Run.{run-halt, run-stop, run-out, run-spent, run-go, run-zero}
-use Rattle.calculus.proofs.Trace.{calls-time, calls-cut}
+use Rattle.calculus.proofs.Trace.{calls-time, calls-cut, calls-first}
 use Rattle.calculus.proofs.Peel.{step-bare, step-known, settle-bare, book, Similar, rewritten-peel}
 use Rattle.calculus.proofs.Image.{image, Below, below-more, rising-more, rising-keep, keep-with, keep-without, logged-noted, book-event}
 
@@ -66,11 +67,11 @@ pub record Ok (G : Guideline) (κ : Conf) : Type 0 where
   pub bare : Bare (κ .expr)
   pub below : Below (κ .time) (entries (κ .made))
   pub rising : Rising (entries (κ .made))
-  pub room : notes G κ ≤ limit
+  pub room : notes G κ ≤ L.historyLimit
 
 -- The step from κ to κ′ makes a noted call, and there are as many already as the history has room for.
 pub record Filled (G : Guideline) (κ κ′ : Conf) : Type 0 where
-  pub before : notes G κ ≡ limit
+  pub before : notes G κ ≡ L.historyLimit
   pub call : Entry
   pub time : call .time ≡ κ .time
   pub isNote : isNoted G call ≡ true
@@ -109,14 +110,14 @@ ok-quiet G κ e ok p =
       room = rw (append-nil (κ .made)) (ok .room);
     }
 
-ok-call : (G : Guideline) (κ : Conf) (f : ℕ) (v e : Term) → Ok G κ → Bare e → (noted G f && leb limit (notes G κ)) ≡ false → Ok G (after κ (calls f v) e)
+ok-call : (G : Guideline) (κ : Conf) (f : ℕ) (v e : Term) → Ok G κ → Bare e → (noted G f && leb L.historyLimit (notes G κ)) ≡ false → Ok G (after κ (calls f v) e)
 unfolding each
 ok-call G κ f v e ok p h =
     record {
       bare = p;
       below = rw (entries-after κ (calls f v) e) (below-more (κ .time) K x (ok .below) refl);
       rising = rw (entries-after κ (calls f v) e) (rising-more K x (ok .rising) (ok .below));
-      room = rw (entries-after κ (calls f v) e) (on (noted G f) (leb limit (notes G κ)) refl refl h);
+      room = rw (entries-after κ (calls f v) e) (on (noted G f) (leb L.historyLimit (notes G κ)) refl refl h);
     }
   where
     K : List Entry
@@ -125,19 +126,19 @@ ok-call G κ f v e ok p h =
     x : Entry
     x = entry (record { time = κ .time; function = f; argument = v })
 
-    on : (y z : Bool) → noted G f ≡ y → leb limit (notes G κ) ≡ z → (y && z) ≡ false → length (keep (isNoted G) (K ++ (x ∷ []))) ≤ limit
+    on : (y z : Bool) → noted G f ≡ y → leb L.historyLimit (notes G κ) ≡ z → (y && z) ≡ false → length (keep (isNoted G) (K ++ (x ∷ []))) ≤ L.historyLimit
     on true true k k′ q = let z : _≡_ {A = ℕ} 0 1 = cc in absurd (omega arith)
     on true false k k′ q =
-        let l = nleb→lt limit (notes G κ) (rw k′ tt) in
+        let l = nleb→lt L.historyLimit (notes G κ) (rw k′ tt) in
         rw (keep-with (isNoted G) K x k, length-append (keep (isNoted G) K) (x ∷ [])) (omega arith)
     on false z k k′ q = rw (keep-without (isNoted G) K x k) (ok .room)
 
 -- … and where it has none, the step's call is the one too many.
-filled : (G : Guideline) (κ : Conf) (f : ℕ) (v e : Term) → Ok G κ → (noted G f && leb limit (notes G κ)) ≡ true → Filled G κ (after κ (calls f v) e)
+filled : (G : Guideline) (κ : Conf) (f : ℕ) (v e : Term) → Ok G κ → (noted G f && leb L.historyLimit (notes G κ)) ≡ true → Filled G κ (after κ (calls f v) e)
 unfolding each
 filled G κ f v e ok h =
-    let r = and-both (noted G f) (leb limit (notes G κ)) (true-T (noted G f && leb limit (notes G κ)) h) in
-    let l = leb→le limit (notes G κ) (r .1) in
+    let r = and-both (noted G f) (leb L.historyLimit (notes G κ)) (true-T (noted G f && leb L.historyLimit (notes G κ)) h) in
+    let l = leb→le L.historyLimit (notes G κ) (r .1) in
     let room = ok .room in
     record {
       before = omega arith;
@@ -152,7 +153,7 @@ module _ (G : Guideline) (safe : Safe G) (C : Codebase) (code : BareCode C) wher
   C′ = rewrittenCode G C
 
   -- A call of a defined function is told full where it is noted and the history has 1,024 entries.
-  full-call : (s : L.State) (f : ℕ) (v b : Term) → C f ≡ some b → L.isFull C′ s (calls f v) ≡ (noted G f && leb limit (length (s .history)))
+  full-call : (s : L.State) (f : ℕ) (v b : Term) → C f ≡ some b → L.isFull C′ s (calls f v) ≡ (noted G f && leb L.historyLimit (length (s .history)))
   full-call s f v b e = rw (e, begins-noted G f b (code f b e))
 
   -- So a step told full is the one too many, and any other keeps what holds.
@@ -177,7 +178,7 @@ module _ (G : Guideline) (safe : Safe G) (C : Codebase) (code : BareCode C) wher
   unfolding plainTick L.logTick
   sync κ ok = on (step C (κ .expr)) (step C′ (κ .expr)) refl (rewritten-peel G C code (κ .expr) (ok .bare))
     where
-      move : (ev : Event) (e e′ : Term) → step C (κ .expr) ≡ next ev e → size e′ ≡ size e → ((s : L.State) → L.settle G e′ s ≡ L.at e (book G ev s)) → (x y : Bool) → leb (size e) limit ≡ x → L.isFull C′ (image G κ .state) ev ≡ y → Sync G κ (plainMove κ ev e) (L.logMove G C′ (image G κ) ev e′)
+      move : (ev : Event) (e e′ : Term) → step C (κ .expr) ≡ next ev e → size e′ ≡ records e → ((s : L.State) → L.settle G e′ s ≡ L.at e (book G ev s)) → (x y : Bool) → leb (records e) limit ≡ x → L.isFull C′ (image G κ .state) ev ≡ y → Sync G κ (plainMove κ ev e) (L.logMove G C′ (image G κ) ev e′)
       move ev e e′ q l s false y k k′ = rw (l, k) (refl, large-not-full)
       move ev e e′ q l s true true k k′ = rw (l, k, k′) (inr (refl, full-means κ ev e ok q k′))
       move ev e e′ q l s true false k k′ = rw (l, k, k′) (inl (ap {B = Tick L.Conf} go (s (L.tick (image G κ .state)) ∙ image-after κ ev e ok), ok-after κ ev e ok q k′, refl))
@@ -185,7 +186,7 @@ module _ (G : Guideline) (safe : Safe G) (C : Codebase) (code : BareCode C) wher
       on : (x x′ : Next) → step C (κ .expr) ≡ x → Similar G (book G) x x′ → Sync G κ (plainNext κ x) (L.logNext G C′ (image G κ) x′)
       on atValue x′ q h = rw h (refl, value-not-full)
       on atStuck x′ q h = rw h (refl, stuck-not-full)
-      on (next ev e) x′ q (e′, h, l, s) = rw h (move ev e e′ q l s (leb (size e) limit) (L.isFull C′ (image G κ .state) ev) refl refl)
+      on (next ev e) x′ q (e′, h, l, s) = rw h (move ev e e′ q (l ∙ bare-size e (step-bare C code (κ .expr) e ev (ok .bare) q)) s (leb (records e) limit) (L.isFull C′ (image G κ .state) ev) refl refl)
 
 -- ---- the whole run
 
@@ -353,13 +354,19 @@ module _ (G : Guideline) (safe : Safe G) (S : Program) (n : ℕ) (r : Result L.C
   unfolding plain
   full-is e =
       let (l, f) = t .fullMeans e in
+      let k : ℕ = r .last .state .time in
+      let c : f .call .time ≡ k = f .time ∙ sym clock in
+      let s : k < n = rw steps-are l in
+      let onward : callsBelow S (suc (t .steps)) ≡ entries (t .end .made) ++ (f .call ∷ []) = f .onward in
       record {
-        made = rw steps-are l;
-        before = ap (λ (K : List Entry). length (keep (isNoted G) K)) calls-are ∙ f .before;
+        before =
+            ap length (sym (keep-keep (isNoted G) (λ (x : Entry). ltb (x .time) k) (callsBelow S n)))
+            ∙ ap (λ (K : List Entry). length (keep (isNoted G) K)) (calls-first S k n (omega arith) ∙ calls-are)
+            ∙ f .before;
         call = f .call;
-        time = f .time ∙ sym clock;
+        made = calls-cut S (suc (t .steps)) n (f .call) (omega arith) (rw onward (Memᴰ·append-right (entries (t .end .made)) (List·Memᴰ·head refl)));
+        time = c;
         isNote = f .isNote;
-        onward = ap (λ (m : ℕ). callsBelow S (suc m)) steps-are ∙ f .onward ∙ sym (ap (λ (K : List Entry). K ++ (f .call ∷ [])) calls-are);
       }
 
   -- All parts of the claim.

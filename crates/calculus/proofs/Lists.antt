@@ -126,6 +126,24 @@ module _ {A : Type 0} where
   keep-cong p q [] h = refl
   keep-cong p q (x ∷ xs) h = rw (h x (List·Memᴰ·head refl), keep-cong p q xs (λ y m. h y (List·Memᴰ·tail m)))
 
+  -- Where every element passes the test, all are selected.
+  pub keep-all : (p : A → Bool) (xs : List A) → ((x : A) → List·Memᴰ x xs → T (p x)) → keep p xs ≡ xs
+  unfolding keep
+  keep-all p [] h = refl
+  keep-all p (x ∷ xs) h = rw (T-true (p x) (h x (List·Memᴰ·head refl)), keep-all p xs (λ y m. h y (List·Memᴰ·tail m)))
+
+  -- A selection of a selection passes both tests.
+  pub keep-keep : (p q : A → Bool) (xs : List A) → keep p (keep q xs) ≡ keep (λ x. p x && q x) xs
+  unfolding keep
+  keep-keep p q [] = refl
+  keep-keep p q (x ∷ xs) = on (p x) (q x) refl (keep-keep p q xs)
+    where
+      on : (a b : Bool) → p x ≡ a → keep p (keep q xs) ≡ keep (λ y. p y && q y) xs → keep p (cond b (x ∷ keep q xs) (keep q xs)) ≡ cond (a && b) (x ∷ keep (λ y. p y && q y) xs) (keep (λ y. p y && q y) xs)
+      on true true e h = rw e (ap (λ (l : List A). x ∷ l) h)
+      on true false e h = h
+      on false true e h = rw e h
+      on false false e h = h
+
   pub keep-from : (p : A → Bool) (xs : List A) {x : A} → List·Memᴰ x (keep p xs) → List·Memᴰ x xs × T (p x)
   unfolding keep
   keep-from p [] m = absurd (List·Memᴰ·not-nil m)

@@ -1,16 +1,19 @@
--- The commands due at the redex and the rewritten run, by the paper's rules. Assumes nothing.
+-- The commands due at the redex and the rewritten run, by the paper's rules, which are deterministic. Assumes nothing.
 use mathlib.Core.Bool.{Bool, true, false, cond}
-use mathlib.Core.Path.{_≡_, refl, sym, ap}
+use mathlib.Core.Logic.{_⊎_, inl, inr}
+use mathlib.Core.Path.{_≡_, refl, sym, ap, ap₂, _∙_}
+use native.Mathlib.Omega.{arith}
 use Prim.Native.Nat.{ℕ, zero, suc}
 use lib.Dec.{T, leb}
 use Rattle.calculus.specs.Term.{Term, Codebase, ClosedCode, ClosedTerm, isValue, size}
 use Rattle.calculus.specs.Term.Term.{var, fun, con, lam, app, callEvent, emit}
 use Rattle.calculus.specs.Step.{Event, Next, step}
+use Rattle.calculus.specs.Step.Event.{quiet}
 use Rattle.calculus.specs.Step.Next.{atValue, atStuck, next}
-use Rattle.calculus.specs.Rules.{Context, plug}
+use Rattle.calculus.specs.Rules.{Context, plug, Reduces}
 use Rattle.calculus.specs.Rules.Context.{[], applied, argument}
 use Rattle.calculus.specs.Guideline.{Guideline, Safe}
-use Rattle.calculus.specs.Entailment.{entails?}
+use Rattle.calculus.specs.Entailment.{Entails, entails?}
 use Rattle.calculus.specs.Run.{Outcome, Tick, run, ended, onward, limit}
 use Rattle.calculus.specs.Run.Tick.{halt, stop, go}
 use Rattle.calculus.specs.Log.{Conf, State, at, triple, noteCall, addEntry, emitCall, tick, settle, functionSettled, isFull, logNext, logTick, logged, fresh}
@@ -20,7 +23,8 @@ use Rattle.calculus.specs.LogRules.{Runs, LogTraces}
 use Rattle.calculus.specs.LogRules.Runs.{Λcall, Precondition, Log, NoLog, context}
 use Rattle.calculus.proofs.Lists.{true-T, false-T}
 use Rattle.calculus.proofs.Entailment.{entails-decides}
-use Rattle.calculus.proofs.Rules.{step-reduces}
+use Rattle.calculus.proofs.Rules.{step-reduces, Apart, apart, apart-here, apart-within, apart-applied, becomes-ready, becomes-unique, ready-unique, reduces-time}
+use Rattle.calculus.proofs.Rules.Becomes.{noted, emitted}
 use Rattle.calculus.proofs.Scope.{step-closed}
 
 -- ---- any number of steps
@@ -185,3 +189,65 @@ module _ (G : Guideline) (safe : Safe G) (C : Codebase) (closed : ClosedCode C) 
   pub run-runs : (e : Term) → ClosedTerm C e → (n : ℕ) → (τ : Sequence Conf) × LogTraces G C e τ × (last τ ≡ logged G C n e .last)
   unfolding logged
   run-runs e h n = trace-runs G C (alone (at e fresh)) (LogTraces.start refl) (then-runs G C (settle-runs G safe C e fresh) (on-reached n (settle G e fresh) (settle-closed G C e fresh h)))
+
+-- ---- the rules are deterministic
+
+-- What a rule other than Context does to the state, by what it begins on.
+abbrev pub Changes : Guideline → Term → State → State → Type 0
+Changes G (var i) s s′ = ⊥
+Changes G (fun f) s s′ = ⊥
+Changes G (con n) s s′ = ⊥
+Changes G (lam l b) s s′ = ⊥
+Changes G (app a b) s s′ = s′ ≡ tick s
+Changes G (callEvent f v r) s s′ = s′ ≡ noteCall f v s
+Changes G (emit f v r) s s′ = (Entails G (s .history) (triple f v s) × (s′ ≡ addEntry (triple f v s) s)) ⊎ ((Entails G (s .history) (triple f v s) → ⊥) × (s′ ≡ s))
+
+-- It does one thing to it: Log and NoLog exclude each other.
+changes-unique : (G : Guideline) (m : Term) (s s′ s″ : State) → Changes G m s s′ → Changes G m s s″ → s′ ≡ s″
+changes-unique G (var i) s s′ s″ c c′ = absurd c
+changes-unique G (fun f) s s′ s″ c c′ = absurd c
+changes-unique G (con n) s s′ s″ c c′ = absurd c
+changes-unique G (lam l b) s s′ s″ c c′ = absurd c
+changes-unique G (app a b) s s′ s″ c c′ = c ∙ sym c′
+changes-unique G (callEvent f v r) s s′ s″ c c′ = c ∙ sym c′
+changes-unique G (emit f v r) s s′ s″ (inl (h, c)) (inl (h′, c′)) = c ∙ sym c′
+changes-unique G (emit f v r) s s′ s″ (inl (h, c)) (inr (h′, c′)) = absurd (h′ h)
+changes-unique G (emit f v r) s s′ s″ (inr (h, c)) (inl (h′, c′)) = absurd (h h′)
+changes-unique G (emit f v r) s s′ s″ (inr (h, c)) (inr (h′, c′)) = c ∙ sym c′
+
+-- A step of Λcall costs one unit of time and keeps history and log.
+call-changes : (G : Guideline) {C : Codebase} {e e′ : Term} {ev : Event} {s s′ : State} (r : Reduces C e (s .time) ev e′ (s′ .time)) → s′ .history ≡ s .history → s′ .log ≡ s .log → Changes G (apart r .hole) s s′
+call-changes G r h k = let (a, v, q) = apart-applied r in let t = reduces-time r in rw q (λ i. record { history = h i; time = t i; log = k i })
+
+-- A step of Λlog taken apart, with what it does to the state.
+pub log-apart : {G : Guideline} {C : Codebase} {κ κ′ : Conf} → Runs G C κ κ′ → (ev : Event) × (d : Apart C (κ .expr) ev (κ′ .expr)) × Changes G (d .hole) (κ .state) (κ′ .state)
+unfolding apart-here apart-within
+log-apart {G} (Λcall {ev = ev} r h k) = (ev, apart r, call-changes G r h k)
+log-apart Precondition = (quiet, apart-here noted, refl)
+log-apart (Log h) = (quiet, apart-here emitted, inl (h, refl))
+log-apart (NoLog h) = (quiet, apart-here emitted, inr (h, refl))
+log-apart (context E r h h′) = let (ev, d, c) = log-apart r in (ev, apart-within E h h′ d, c)
+
+-- The rules of Λlog are deterministic; with `run-runs` this pins the rewritten run.
+pub log-deterministic : {G : Guideline} {C : Codebase} {κ κ′ κ″ : Conf} → Runs G C κ κ′ → Runs G C κ κ″ → κ′ ≡ κ″
+log-deterministic {G} {κ = κ} {κ′ = κ′} {κ″ = κ″} r r′ =
+    let (ev, d, c) = log-apart r in
+    let (ev′, d′, c′) = log-apart r′ in
+    let (x, y) = ready-unique (d .around) (d′ .around) (d .hole) (d′ .hole) (becomes-ready (d .becomes)) (becomes-ready (d′ .becomes)) (sym (d .before) ∙ d′ .before) in
+    let e : κ′ .expr ≡ κ″ .expr = d .after ∙ ap₂ plug x (becomes-unique (rw y at (d .becomes)) (d′ .becomes) .1) ∙ sym (d′ .after) in
+    let s : κ′ .state ≡ κ″ .state = changes-unique G (d .hole) (κ .state) (κ′ .state) (κ″ .state) c (rw y c′) in
+    λ i. at (e i) (s i)
+
+-- The count of a trace's steps.
+abbrev pub steps : Sequence Conf → ℕ
+steps (alone κ) = 0
+steps (then τ κ) = suc (steps τ)
+
+-- So a program has one trace of each length, among them the one that `run-runs` gives.
+pub log-trace-unique : {G : Guideline} {C : Codebase} {e : Term} {τ τ′ : Sequence Conf} → LogTraces G C e τ → LogTraces G C e τ′ → steps τ ≡ steps τ′ → τ ≡ τ′
+log-trace-unique (LogTraces.start h) (LogTraces.start h′) q = ap alone (h ∙ sym h′)
+log-trace-unique (LogTraces.start h) (LogTraces.onward t r) q = absurd (omega arith)
+log-trace-unique (LogTraces.onward t r) (LogTraces.start h) q = absurd (omega arith)
+log-trace-unique (LogTraces.onward t r) (LogTraces.onward t′ r′) q =
+    let h = log-trace-unique t t′ (omega arith) in
+    ap₂ then h (log-deterministic (rw (ap last h) at r) r′)

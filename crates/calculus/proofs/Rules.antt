@@ -184,12 +184,12 @@ within-plug (applied E b) F e = ap (λ x. app x b) (within-plug E F e)
 within-plug (argument v p E) F e = ap (app v) (within-plug E F e)
 
 -- A step with no context around it comes apart so, …
-pub apart-here : {C : Codebase} {m r : Term} {ev : Event} → Becomes C m ev r → Apart C m ev r
+unfoldable pub apart-here : {C : Codebase} {m r : Term} {ev : Event} → Becomes C m ev r → Apart C m ev r
 unfolding plug
 apart-here {m = m} {r = r} h = record { around = []; hole = m; result = r; before = refl; after = refl; becomes = h }
 
 -- … in a context too, …
-pub apart-within : {C : Codebase} {e e′ a a′ : Term} {ev : Event} (E : Context) → a ≡ plug E e → a′ ≡ plug E e′ → Apart C e ev e′ → Apart C a ev a′
+unfoldable pub apart-within : {C : Codebase} {e e′ a a′ : Term} {ev : Event} (E : Context) → a ≡ plug E e → a′ ≡ plug E e′ → Apart C e ev e′ → Apart C a ev a′
 apart-within E h h′ d =
     record {
       around = within E (d .around);
@@ -206,6 +206,13 @@ unfolding isValue
 apart (β p h) = apart-here (contracted tt p (ap (next quiet) (sym h)))
 apart (βCall {f = f} {v = v} p c h) = apart-here (contracted tt p (ap (contractCall f v) c ∙ ap (next (calls f v)) (sym h)))
 apart (context E r h h′) = apart-within E h h′ (apart r)
+
+-- A step of Λcall begins on an application.
+pub apart-applied : {C : Codebase} {e e′ : Term} {ev : Event} {n n′ : ℕ} (r : Reduces C e n ev e′ n′) → (a : Term) × (v : Term) × (apart r .hole ≡ app a v)
+unfolding apart apart-here apart-within
+apart-applied (β {l = l} {e = e} {v = v} p h) = (lam l e, v, refl)
+apart-applied (βCall {f = f} {v = v} p c h) = (fun f, v, refl)
+apart-applied (context E r h h′) = apart-applied r
 
 -- An expression with something in a context that a rule begins on has its step there.
 pub apart-hole : {C : Codebase} {e e′ : Term} {ev : Event} (E : Context) (m : Term) → Ready m → e ≡ plug E m → Apart C e ev e′ → (r : Term) × Becomes C m ev r × (e′ ≡ plug E r)

@@ -1,11 +1,22 @@
--- In a term without commands *large* counts every record. Assumes nothing.
+-- What *large* counts: not every record, but each in a term without commands. Assumes nothing.
 use mathlib.Core.Path.{_≡_, refl, ap}
 use native.Mathlib.Omega.{arith}
-use Prim.Native.Nat.{suc}
+use Prim.Native.Nat.{suc, _≤_}
 use Rattle.calculus.specs.Term.{Term, Bare, records, size}
 use Rattle.calculus.specs.Term.Term.{var, fun, con, lam, app, callEvent, emit}
 
--- Its size is the count of its records.
+-- Not every record counts.
+pub size-most : (t : Term) → size t ≤ records t
+unfolding size records
+size-most (var i) = omega arith
+size-most (fun f) = omega arith
+size-most (con n) = omega arith
+size-most (lam l b) = omega (arith, size-most b)
+size-most (app a b) = omega (arith, size-most a, size-most b)
+size-most (callEvent f a r) = omega (arith, size-most r)
+size-most (emit f a r) = omega (arith, size-most r)
+
+-- The size of a term without commands is the count of its records.
 pub bare-size : (t : Term) → Bare t → size t ≡ records t
 unfolding size records
 bare-size (var i) b = refl

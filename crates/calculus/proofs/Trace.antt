@@ -1,12 +1,13 @@
 -- The plain run is a trace of the paper's rules, and its list of calls is pinned to its steps. Assumes nothing.
 use mathlib.Core.Bool.{Bool, true, false}
-use mathlib.Core.List.{[], _∷_, _++_, List·Memᴰ, List·Memᴰ·head, Memᴰ·append-left, Memᴰ·append-right, List·Memᴰ·append-cases, List·Memᴰ·eq-of-singleton, List·Memᴰ·not-nil}
+use mathlib.Core.List.{[], _∷_, _++_, append-nil, List·Memᴰ, List·Memᴰ·head, Memᴰ·append-left, Memᴰ·append-right, List·Memᴰ·append-cases, List·Memᴰ·eq-of-singleton, List·Memᴰ·not-nil}
 use mathlib.Core.Logic.{_↔_, _⊎_, inl, inr}
 use mathlib.Core.Option.{Option, none, some}
 use mathlib.Core.Path.{_≡_, refl, sym, ap, ap₂, _∙_}
 use native.Mathlib.Omega.{arith}
-use Prim.Native.Nat.{ℕ, zero, suc, _≤_, _<_}
-use lib.Dec.{T, leb, leb→le, nleb→lt}
+use Prim.Native.Nat.{ℕ, zero, suc, _+_, _-_, _≤_, _<_}
+use lib.Dec.{T, leb, ltb, leb→le, nleb→lt, ltb→lt, lt→ltb}
+use Rattle.calculus.specs.Lists.{keep, each}
 use Rattle.calculus.specs.Term.{Term, Codebase, Program, ClosedCode, ClosedTerm, isValue, codebase}
 use Rattle.calculus.specs.Term.Term.{fun, app}
 use Rattle.calculus.specs.Step.{Event, step}
@@ -19,8 +20,8 @@ use Rattle.calculus.specs.Run.{Conf, callsOf, initial, plainTick, plain,
 use Rattle.calculus.specs.Trace.{Sequence, last, Configuration, Traces, Fact, Says, toFOL}
 use Rattle.calculus.specs.Trace.Sequence.{alone, then}
 use Rattle.calculus.specs.Trace.Traces.{start, onward}
-use Rattle.calculus.specs.Claim.{callsBelow}
-use Rattle.calculus.proofs.Lists.{each-from, each-into}
+use Rattle.calculus.specs.Claim.{entries, callsBelow}
+use Rattle.calculus.proofs.Lists.{T-false, keep-append, keep-all, each-append, each-from, each-into}
 use Rattle.calculus.proofs.Steps.{not-stuck-next}
 use Rattle.calculus.proofs.Rules.{step-reduces, contractCall, Becomes, within, within-plug, apart, apart-hole, reduces-time}
 use Rattle.calculus.proofs.Rules.Becomes.{contracted}
@@ -113,6 +114,29 @@ calls-cut S k m x l h =
     let q = ap (λ (y : Entry). y .time) (List·Memᴰ·eq-of-singleton j) in
     let r = made-exactly (codebase S) (S .main) k c .0 i in
     each-into (λ (c : Call). entry c ∷ []) (made-exactly (codebase S) (S .main) m c .1 (omega arith, r .1, r .2)) j
+
+-- A step at time k or later makes no call below k.
+later-call : (k t : ℕ) (ev : Event) → k ≤ t → keep (λ (x : Entry). ltb (x .time) k) (entries (callsOf t ev)) ≡ []
+unfolding keep each
+later-call k t quiet l = refl
+later-call k t (calls f v) l = rw (T-false (ltb t k) (λ h. let q = ltb→lt t k h in omega arith))
+
+-- So j more in the budget add none.
+calls-more : (S : Program) (k j : ℕ) → keep (λ x. ltb (x .time) k) (callsBelow S (k + j)) ≡ callsBelow S k
+calls-more S k zero = let q : k + 0 ≡ k = omega arith in rw q (keep-all (λ (x : Entry). ltb (x .time) k) (callsBelow S k) (λ x m. lt→ltb (x .time) k (calls-time S k x m)))
+calls-more S k (suc j) = let q : k + suc j ≡ suc (k + j) = omega arith in rw q (on (advance (codebase S) (S .main) (k + j)) (calls-more S k j))
+  where
+    on : Advance (codebase S) (S .main) (k + j) → keep (λ (x : Entry). ltb (x .time) k) (callsBelow S (k + j)) ≡ callsBelow S k → keep (λ (x : Entry). ltb (x .time) k) (callsBelow S (suc (k + j))) ≡ callsBelow S k
+    on (rests p) below = rw p below
+    on (moves t p) below =
+        let c : Conf = plainRun S (k + j) .last in
+        rw (added p, each-append (λ (c : Call). entry c ∷ []) (c .made) (callsOf (c .time) (p .event)))
+        (rw (keep-append (λ (x : Entry). ltb (x .time) k) (entries (c .made)) (entries (callsOf (c .time) (p .event))))
+        (rw (later-call k (c .time) (p .event) (omega arith)) (append-nil _ ∙ below)))
+
+-- The calls of a run are those of a longer one at times below its budget.
+pub calls-first : (S : Program) (k n : ℕ) → k ≤ n → keep (λ x. ltb (x .time) k) (callsBelow S n) ≡ callsBelow S k
+calls-first S k n l = let q : k + (n - k) ≡ n = omega arith in rw q at (calls-more S k (n - k))
 
 -- ---- the paper's traces
 

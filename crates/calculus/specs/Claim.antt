@@ -1,16 +1,17 @@
 -- Demand 3 on trees, in one statement. Assumes nothing.
-use mathlib.Core.Bool.{Bool, true}
-use mathlib.Core.List.{List, [], _∷_, _++_, List·Memᴰ}
+use mathlib.Core.Bool.{Bool, true, _&&_}
+use mathlib.Core.List.{List, [], _∷_, List·Memᴰ}
 use mathlib.Core.Logic.{_↔_, _≢_}
 use mathlib.Core.Path.{_≡_}
 use Prim.Native.Nat.{ℕ, suc, _<_}
+use lib.Dec.{ltb}
 use lib.ListN.{length}
 use Rattle.calculus.specs.Lists.{keep, each}
 use Rattle.calculus.specs.Term.{Program}
 use Rattle.calculus.specs.Guideline.{Guideline}
 use Rattle.calculus.specs.Entailment.{Call, Entry, entry, Entails}
 use Rattle.calculus.specs.Rewriting.{rewrite, noted}
-use Rattle.calculus.specs.Run.{Result, plainRun, limit}
+use Rattle.calculus.specs.Run.{Result, plainRun}
 use Rattle.calculus.specs.Run.Outcome.{full}
 use Rattle.calculus.specs.Log as L
 
@@ -37,12 +38,11 @@ Rising (x ∷ xs) = Above (x .time) xs × Rising xs
 -- "A full history, reported at k steps, means that 1,024 of steps 0 to k − 1 of the plain run with budget n are noted calls and step k is
 -- one more."
 pub record Full (G : Guideline) (S : Program) (n k : ℕ) : Type 0 where
-  pub made : k < n
-  pub before : length (keep (isNoted G) (callsBelow S k)) ≡ limit
+  pub before : length (keep (λ x. isNoted G x && ltb (x .time) k) (callsBelow S n)) ≡ L.historyLimit
   pub call : Entry
+  pub made : List·Memᴰ call (callsBelow S n)
   pub time : call .time ≡ k
   pub isNote : isNoted G call ≡ true
-  pub onward : callsBelow S (suc k) ≡ callsBelow S k ++ (call ∷ [])
 
 -- r is the rewritten run of S under G with budget n, k the count of its steps.
 pub record Faithful (G : Guideline) (S : Program) (n : ℕ) (r : Result L.Conf) (k : ℕ) : Type 0 where

@@ -7,7 +7,6 @@ use native.Mathlib.Omega.{arith}
 use lib.ListN.{length}
 use Rattle.words.specs.Bytes.{AllBytes}
 use Rattle.calculus.specs.Term.{Term, Program, records, size, Bare, BareCode, BareProgram, Placed, ClosedCode, ClosedTerm, bodies, codebase, definitionRecords}
-use Rattle.calculus.specs.Term.Term.{var, fun, con, lam, app, callEvent, emit}
 use Rattle.calculus.specs.Term.Placed.{plain}
 use Rattle.calculus.specs.Strip.{strip, stripBody}
 use Rattle.calculus.proofs.Strip.{stripped-bare}
@@ -20,7 +19,7 @@ use Rattle.script.specs.declared.Purpose.the-variants.{Checking, Rewriting, Pla
 use Rattle.script.proofs.Program.{FitsProgram, file-encode, numbered-bodies}
 use Rattle.script.proofs.Accepted.{accepted-program, formed-fits}
 use Rattle.zipper.specs.Layout.{Expression}
-use Rattle.calculus.proofs.Size.{bare-size}
+use Rattle.calculus.proofs.Size.{size-most, bare-size}
 use Rattle.script.specs.File.{programIn}
 use Rattle.machine.specs.Program.{codeIn, Formed}
 use Rattle.machine.proofs.Strip.{strip-same, strip-size, defined-strip, strip-closed}
@@ -67,16 +66,6 @@ body-size (x ∷ bs) zero b e = let q : x ≡ b = cc in rw q (omega arith)
 body-size (x ∷ bs) (suc f) b e = omega (arith, body-size bs f b e)
 
 -- Not every record counts.
-size-most : (t : Term) → size t ≤ records t
-unfolding size records
-size-most (var i) = omega arith
-size-most (fun f) = omega arith
-size-most (con n) = omega arith
-size-most (lam l b) = omega (arith, size-most b)
-size-most (app a b) = omega (arith, size-most a, size-most b)
-size-most (callEvent f a r) = omega (arith, size-most r)
-size-most (emit f a r) = omega (arith, size-most r)
-
 sizes-most : (bs : List Term) → definitionSizes bs ≤ definitionRecords bs
 unfolding definitionSizes definitionRecords
 sizes-most [] = omega arith

@@ -8,7 +8,7 @@ use native.Mathlib.Omega.{arith}
 use Prim.Native.Nat.{ℕ, zero, suc, _+_, _-_, _<_, _≤_}
 use lib.ListN.{length}
 use borrow.Author.Tests.{le-leb, lt-leb}
-use Rattle.calculus.specs.Term.{Term, Codebase, ClosedCode, ClosedTerm, isValue, size}
+use Rattle.calculus.specs.Term.{Term, Codebase, ClosedCode, ClosedTerm, isValue, records}
 use Rattle.calculus.specs.Step.{step}
 use Rattle.calculus.specs.Step.Next.{atStuck}
 use Rattle.calculus.specs.Entailment.{Call}
@@ -16,6 +16,7 @@ use Rattle.calculus.specs.Run as runs
 use Rattle.calculus.specs.Run.{result, Conf, callsOf, limit, plainTick, plainRun}
 use Rattle.calculus.specs.Run.Outcome.{value, stuck, spent, large}
 use Rattle.calculus.specs.Run.Tick.{halt, stop, go}
+use Rattle.calculus.proofs.Size.{size-most}
 use Rattle.calculus.proofs.Run.{run-halt, run-stop, run-out, run-spent, run-go}
 use Rattle.calculus.proofs.Scope.{step-closed}
 use Rattle.script.specs.declared.Purpose.the-variants.{PlainRun}
@@ -24,7 +25,7 @@ use Rattle.zipper.specs.Zipper.{wholeIn, ZipOf, Flat, Poised, SoughtIs, Loaded}
 use Rattle.zipper.specs.declared.Sought.{Sought}
 use Rattle.zipper.specs.declared.Sought.the-variants.{Value, Stuck, Redex}
 use Rattle.zipper.proofs.Context.{step-value}
-use Rattle.zipper.proofs.Whole.{zip-own, zip-whole, poised-flat, poised-whole, sought-value, sought-stuck, sought-redex}
+use Rattle.zipper.proofs.Whole.{zip-own, zip-flat, zip-whole, poised-flat, poised-whole, sought-value, sought-stuck, sought-redex}
 use Rattle.zipper.proofs.Ends.{loaded-zip}
 use Rattle.script.specs.File.{programIn}
 use Rattle.machine.specs.Program.{codeIn, Formed}
@@ -53,19 +54,19 @@ module _ (C : Codebase) (T : Term) (k : ℕ) (m : List Call) where
   stuck-tick e = rw e
 
   module _ (h : Moves C T) where
-    small-tick : size (h .expr) ≤ limit → plainTick C (conf T k m) ≡ go (conf (h .expr) (suc k) (m ++ callsOf k (h .event)))
+    small-tick : records (h .expr) ≤ limit → plainTick C (conf T k m) ≡ go (conf (h .expr) (suc k) (m ++ callsOf k (h .event)))
     unfolding plainTick
-    small-tick l = rw (h .steps, le-leb (size (h .expr)) limit l)
+    small-tick l = rw (h .steps, le-leb (records (h .expr)) limit l)
 
-    large-tick : limit < size (h .expr) → plainTick C (conf T k m) ≡ stop large
+    large-tick : limit < records (h .expr) → plainTick C (conf T k m) ≡ stop large
     unfolding plainTick
-    large-tick l = rw (h .steps, lt-leb (size (h .expr)) limit l)
+    large-tick l = rw (h .steps, lt-leb (records (h .expr)) limit l)
 
     -- Without budget the step is not made, whether it would be large or not.
     spent-run : runs.run (plainTick C) zero (conf T k m) ≡ result spent (conf T k m)
-    spent-run = on (decLt limit (size (h .expr)))
+    spent-run = on (decLt limit (records (h .expr)))
       where
-        on : Dec (limit < size (h .expr)) → runs.run (plainTick C) zero (conf T k m) ≡ result spent (conf T k m)
+        on : Dec (limit < records (h .expr)) → runs.run (plainTick C) zero (conf T k m) ≡ result spent (conf T k m)
         on (yes l) = run-out (plainTick C) (conf T k m) large (large-tick l)
         on (no l) = run-spent (plainTick C) (conf T k m) _ (small-tick (omega arith))
 
@@ -146,7 +147,7 @@ module _ (s : List ℕ) (budget : ℕ) where
         rests-large g y w =
             let a = fired-large (codeIn s) (wholeIn e l r) p l′ r′ f e′ e₂ fired g in
             rests large y e₂ l′ r′ w
-            (rw more (run-stop (plainTick (codeIn s)) (budget - suc k) (conf (wholeIn e l r) k (h .made)) large (large-tick (codeIn s) (wholeIn e l r) k (h .made) (a .move) (a .large))))
+            (rw more (run-stop (plainTick (codeIn s)) (budget - suc k) (conf (wholeIn e l r) k (h .made)) large (large-tick (codeIn s) (wholeIn e l r) k (h .made) (a .move) (omega (arith, a .large, size-most (a .move .expr))))))
             (rw (a .same) (poised-flat at-redex))
 
         pub goes-on : ClosedCode (codeIn s) → (r₂ : ℕ) → f ≡ Made r₂ → (k₂ : ℕ) → k₂ ≡ k + 1 → Going e₂ fs′ p r₂ (n′ - 1) k₂
@@ -160,7 +161,7 @@ module _ (s : List ℕ) (budget : ℕ) where
               closed = rw w (step-closed (codeIn s) code (wholeIn e l r) (a .move .expr) (a .move .event) (h .closed) (a .move .steps));
               same =
                   rw (w, u, add-one k)
-                  (sym (run-go (plainTick (codeIn s)) (budget - suc k) (conf (wholeIn e l r) k (h .made)) _ (small-tick (codeIn s) (wholeIn e l r) k (h .made) (a .move) (a .small)))
+                  (sym (run-go (plainTick (codeIn s)) (budget - suc k) (conf (wholeIn e l r) k (h .made)) _ (small-tick (codeIn s) (wholeIn e l r) k (h .made) (a .move) (zip-flat t .sound .small)))
                   ∙ (rw more at (h .same)));
               within = omega (arith, more);
             }

@@ -19,6 +19,7 @@ use Rattle.calculus.specs.Run.Outcome.{value, stuck, spent, large, full}
 use Rattle.calculus.specs.Log as L
 use Rattle.calculus.specs.Claim as trees
 use Rattle.calculus.proofs.Run.{time-most}
+use Rattle.calculus.proofs.Trace.{calls-time}
 use Rattle.calculus.proofs.Demand3 as onTrees
 use Rattle.terms.specs.Encode.{encode}
 use Rattle.guideline.specs.Read.{guidelineOf}
@@ -104,7 +105,7 @@ module _ {s g : List ℕ} (p : Passed s g) (n : ℕ) (most : n ≤ 1000000) wher
   steps-most = on (full-or (R .outcome))
     where
       on : (R .outcome ≡ full) ⊎ (R .outcome ≢ full) → k ≤ n
-      on (inl e) = omega (arith, faithful .fullMeans e .made)
+      on (inl e) = let f = faithful .fullMeans e in omega (arith, calls-time S n (f .call) (f .made), f .time)
       on (inr e) = omega (arith, faithful .sameCount e, time-most (codebase S) n (initial (S .main)))
 
   -- Each entry of its log is that of a call, so its numbers fit.

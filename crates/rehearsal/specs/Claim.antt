@@ -11,7 +11,7 @@ use Rattle.guideline.specs.Read.{guidelineOf}
 use Rattle.script.specs.File.{programIn}
 use Rattle.machine.specs.declared.Outcome.{Outcome}
 use Rattle.machine.specs.declared.Outcome.the-variants.{Full}
-use Rattle.plain.specs.Answer.{bufferSize, plainOf}
+use Rattle.plain.specs.Answer.{bufferSize, mostBudget, plainOf}
 use Rattle.plain.specs.declared.PlainRun.the-variants as plain
 use Rattle.history.specs.Entries.{entriesIn}
 use Rattle.booking.specs.declared.Counts.{Counts}
@@ -41,7 +41,7 @@ pub record Claim (s g : List ℕ) (n : ℕ) (x : Outcome) (k : Counts) (b l : Li
 -- whatever they held before.
 pub record Demand3 (s g file : List ℕ) : Type 0 where
   -- It is refused only for its budget or a buffer that is too short, …
-  pub runs : (n : ℕ) → n ≤ 1000000 → (e c h l t : List ℕ) → tooShort (length e) (length c) (length h) (length l) (length t) ≡ false
+  pub runs : (n : ℕ) → n ≤ mostBudget → (e c h l t : List ℕ) → tooShort (length e) (length c) (length h) (length l) (length t) ≡ false
       → (x : Outcome) × (k : Counts) × (rewrittenOf file g n e c h l t .answer ≡ Ran x k)
   -- … and where it is not refused, the claim holds of what it returns and leaves.
   pub claims : (n : ℕ) (e c h l t : List ℕ) (x : Outcome) (k : Counts) → rewrittenOf file g n e c h l t .answer ≡ Ran x k

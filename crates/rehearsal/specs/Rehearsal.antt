@@ -2,12 +2,13 @@
 use mathlib.Core.Bool.{Bool, cond}
 use mathlib.Core.List.{List}
 use Prim.Native.Nat.{ℕ}
-use lib.Dec.{eqb, ltb}
+use lib.Dec.{eqb}
 use lib.ListN.{length}
 use Rattle.words.specs.Put.{put}
-use Rattle.refusal.specs.Refusal.{verdict, dueIf, refuseIf}
+use Rattle.refusal.specs.Refusal.{verdict}
 use Rattle.refusal.specs.declared.Verdict.{Verdict}
 use Rattle.rewriting.specs.Answer.{writtenFile, rewritingVerdict}
+use Rattle.plain.specs.Answer.{runDue}
 use Rattle.rewritten.specs.Answer as runs
 use Rattle.rewritten.specs.Answer.{tooShort, rewrittenOf}
 use Rattle.rewritten.specs.declared.RewrittenRun.{RewrittenRun}
@@ -16,7 +17,7 @@ use Rattle.rehearsal.specs.Claim.{Claim}
 
 -- "Runs test 22, 23", then rewriting tests script, guideline and 21, for an output of n bytes. Nothing is written before all are tested.
 unfoldable pub rehearsalDue : List ℕ → List ℕ → ℕ → Bool → ℕ → Verdict
-rehearsalDue s g budget short n = refuseIf 22 (dueIf (ltb 1000000 budget)) (refuseIf 23 (dueIf short) (rewritingVerdict s g n))
+rehearsalDue s g budget short n = runDue budget short (rewritingVerdict s g n)
 
 abbrev pub refusedWith : ℕ → ℕ → RewrittenRun
 refusedWith n p = Refused (verdict n p)

@@ -1,6 +1,6 @@
--- What a caller has of a call that refuses nothing: an accepted script and guideline, and the written file at the front of the output.
--- Assumes nothing.
-use mathlib.Core.Bool.{Bool, true, false, cond}
+-- What a caller has of a call that refuses nothing: an accepted script and guideline, the written file at the front of the output, and its
+-- count of records. Assumes nothing.
+use mathlib.Core.Bool.{Bool, true, false, cond, not}
 use mathlib.Core.List.{List}
 use mathlib.Core.Path.{_≡_, refl, sym, ap, _∙_}
 use Prim.Native.Nat.{ℕ, _+_, _*_, _≤_}
@@ -10,8 +10,10 @@ use lib.ListN.{length, take}
 use borrow.Author.Tests.{eqb-true, eqb-false, ltb-false}
 use Rattle.words.specs.Bytes.{AllBytes}
 use Rattle.words.specs.Put.{put, put-head, put-length}
-use Rattle.calculus.specs.Term.{Program}
-use Rattle.calculus.specs.Rewriting.{rewrite}
+use Rattle.calculus.specs.Lists.{keep, distinct}
+use Rattle.calculus.specs.Term.{Program, programRecords}
+use Rattle.calculus.specs.Rewriting.{logevents, triggers, logged, rewrite}
+use Rattle.calculus.proofs.Growth.{rewrite-grows}
 use Rattle.terms.specs.Record.{count}
 use Rattle.refusal.specs.Refusal.{accepted, refuseIf, dueIf, then-zero}
 use Rattle.refusal.specs.declared.Verdict.{Verdict}
@@ -24,7 +26,7 @@ use Rattle.guideline.specs.Check.{guidelineVerdict}
 use Rattle.guideline.proofs.Due.{guideline-zero}
 use Rattle.rewriting.specs.Answer.{writtenFile, rewritingVerdict, After, after, refusedBy, doneWith, answered, rewriting}
 use Rattle.rewriting.specs.declared.Rewritten.{Rewritten}
-use Rattle.rewriting.proofs.Passing.{Passed, script-program, written-is}
+use Rattle.rewriting.proofs.Passing.{Passed, script-program, script-bytes as program-bytes, functions-below, written-is}
 
 -- The output is long enough.
 long-enough : (n m : ℕ) → (refuseIf 21 (dueIf (ltb n m)) accepted) .number ≡ 0 → m ≤ n
@@ -68,12 +70,15 @@ module _ (s g o : List ℕ) (script-bytes : AllBytes s) (guideline-bytes : AllBy
         verdict = guideline-zero (definitionCount (fileOf s)) g (verdicts .1);
       }
 
-  -- The count says how long the file is.
-  whole : length (writtenFile s g) ≡ 8 * r .records
-  whole =
+  -- The file has eight bytes for each record of the rewritten program, …
+  file-length : length (writtenFile s g) ≡ 8 * programRecords (rewrite (guidelineOf g) (script-program (call-passed .script)))
+  file-length =
       let S : Program = rewrite (guidelineOf g) (script-program (call-passed .script)) in
-      let n = ap length (written-is call-passed) ∙ program-length 0 (S .definitions) (S .main) in
-      omega (arith, n, zero .2)
+      ap length (written-is call-passed) ∙ program-length 0 (S .definitions) (S .main)
+
+  -- … and the count says how long it is.
+  whole : length (writtenFile s g) ≡ 8 * r .records
+  whole = omega (arith, file-length, zero .2)
 
   -- The written file is the front of the output, …
   pub call-written : take (8 * r .records) o′ ≡ writtenFile s g
@@ -84,3 +89,12 @@ module _ (s g o : List ℕ) (script-bytes : AllBytes s) (guideline-bytes : AllBy
   -- … which is long enough.
   pub call-fits : 8 * r .records ≤ length o′
   call-fits = omega (arith, whole, verdicts .2, ap length (zero .1), put-length o 0 (writtenFile s g) (omega (arith, verdicts .2)))
+
+  -- "The output has 4 records more for each distinct logged function and 2 for each other trigger."
+  pub output-grows : r .records
+      ≡ count s + (4 * length (distinct (logevents (guidelineOf g))) + 2 * length (keep (λ f. not (logged (guidelineOf g) f)) (distinct (triggers (guidelineOf g)))))
+  output-grows =
+      let S : Program = script-program (call-passed .script) in
+      let d = functions-below call-passed in
+      let n : length s ≡ 8 * programRecords S = ap length (program-bytes (call-passed .script)) ∙ program-length 0 (S .definitions) (S .main) in
+      omega (arith, n, file-length, whole, rewrite-grows (guidelineOf g) S (d .0) (d .1))

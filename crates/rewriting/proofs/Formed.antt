@@ -12,6 +12,7 @@ use Rattle.calculus.specs.Term.Term.{var, fun, con, lam, app, callEvent, emit}
 use Rattle.calculus.specs.Guideline.{Guideline, Clause}
 use Rattle.calculus.specs.Rewriting.{logevents, triggers, logged, noted, instrument, rewriteFrom, rewrite}
 use Rattle.calculus.proofs.Growth.{rewrite-grows}
+use Rattle.calculus.proofs.Size.{size-most}
 use Rattle.calculus.proofs.Placed.{rewritten-placed}
 use Rattle.calculus.proofs.Demand3.{rewritten-codebase, codebase-bare}
 use Rattle.refusal.specs.Refusal.{accepted}
@@ -25,9 +26,9 @@ use Rattle.script.proofs.Accepted.{formed-fits, program-accepted}
 use Rattle.guideline.specs.Read.{guidelineOf}
 use Rattle.guideline.specs.WithinLimits.{WithinLimits, ClauseInRange}
 use Rattle.guideline.proofs.Accepted.{accepted-within}
-use Rattle.guideline.proofs.Functions.{Defined as Below, functions-exactly, verdict-file}
+use Rattle.guideline.proofs.Functions.{Defined as Below, verdict-file}
 use Rattle.rewriting.specs.Answer.{writtenFile}
-use Rattle.rewriting.proofs.Passing.{Passed, script-program, script-formed, script-count, written-is}
+use Rattle.rewriting.proofs.Passing.{Passed, script-program, script-formed, script-count, functions-below, written-is}
 
 -- ---- a body
 
@@ -85,21 +86,10 @@ module _ (G : Guideline) where
   rewritten-sizes f (e ∷ es) = rw (instrument-size G f e, rewritten-sizes (suc f) es)
 
 -- The records that count are among all records.
-size-records : (t : Term) → size t ≤ records t
-unfolding size records
-size-records (var n) = omega arith
-size-records (fun n) = omega arith
-size-records (con n) = omega arith
-size-records (lam n b) = omega (arith, size-records b)
-size-records (app a b) = omega (arith, size-records a, size-records b)
-size-records (callEvent n a r) = omega (arith, size-records r)
-size-records (emit n a r) = omega (arith, size-records r)
-
--- So with definitions.
 sizes-records : (es : List Term) → definitionSizes es ≤ definitionRecords es
 unfolding definitionSizes definitionRecords
 sizes-records [] = omega arith
-sizes-records (e ∷ es) = omega (arith, size-records e, sizes-records es)
+sizes-records (e ∷ es) = omega (arith, size-most e, sizes-records es)
 
 -- Names that are defined stay so.
 defined-more : (C C′ : Codebase) → ((f : ℕ) → IsSome (C f) → IsSome (C′ f)) → (t : Term) → Defined C t → Defined C′ t
@@ -196,7 +186,7 @@ module _ (G : Guideline) (S : Program) (h : WellFormed Rewriting S) (w : WithinL
         commands = (
           subst PlacedCode (sym (rewritten-codebase G S)) (rewritten-placed G (codebase S) (codebase-bare S (h .commands))),
           h .commands .main,
-          omega (arith, rewritten-sizes G 0 (S .definitions), sizes-records (S .definitions), size-records (S .main), h .short),
+          omega (arith, rewritten-sizes G 0 (S .definitions), sizes-records (S .definitions), size-most (S .main), h .short),
         );
       }
 
@@ -213,8 +203,7 @@ module _ {s g : List ℕ} (p : Passed s g) where
   pub written-formed : WellFormed RewrittenRun (rewrite (guidelineOf g) (script-program (p .script)))
   written-formed =
       let v = verdict-file (definitionCount (fileOf s)) g (p .verdict) in
-      rewrite-formed (guidelineOf g) (script-program (p .script)) (script-formed (p .script)) (accepted-within g (p .bytes) v)
-      (subst (λ (n : ℕ). Below n (guidelineOf g)) (script-count (p .script)) (functions-exactly (definitionCount (fileOf s)) g (p .bytes) v .0 (p .verdict)))
+      rewrite-formed (guidelineOf g) (script-program (p .script)) (script-formed (p .script)) (accepted-within g (p .bytes) v) (functions-below p)
 
   -- The rewritten run accepts it, …
   pub written-accepted : scriptVerdict RewrittenRun (writtenFile s g) ≡ accepted

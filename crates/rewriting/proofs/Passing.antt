@@ -1,6 +1,6 @@
 -- A script and a guideline that are accepted: what is written for them. Assumes nothing.
 use mathlib.Core.List.{List}
-use mathlib.Core.Path.{_≡_, sym, ap, _∙_}
+use mathlib.Core.Path.{_≡_, sym, ap, subst, _∙_}
 use Prim.Native.Nat.{ℕ, _+_, _*_, _≤_}
 use native.Mathlib.Nat.{sub-zero}
 use native.Mathlib.Omega.{arith}
@@ -26,7 +26,7 @@ use Rattle.guideline.specs.Read.{guidelineOf}
 use Rattle.guideline.specs.Check.{guidelineVerdict}
 use Rattle.guideline.proofs.Accepted.{accepted-standing}
 use Rattle.guideline.proofs.Due.{guideline-zero}
-use Rattle.guideline.proofs.Functions.{verdict-file}
+use Rattle.guideline.proofs.Functions.{Defined as Below, functions-exactly, verdict-file}
 use Rattle.rewriting.specs.Answer.{writtenFile}
 use Rattle.rewriting.specs.Marks.{Marks, gains}
 use Rattle.rewriting.specs.Grown.{grown}
@@ -89,6 +89,12 @@ module _ {s : List ℕ} (p : ScriptPassed s) where
 -- ---- what is written
 
 module _ {s g : List ℕ} (p : Passed s g) where
+  -- The script defines the guideline's functions.
+  pub functions-below : Below (length (script-program (p .script) .definitions)) (guidelineOf g)
+  functions-below =
+      let n : ℕ = definitionCount (fileOf s) in
+      subst (λ (m : ℕ). Below m (guidelineOf g)) (script-count (p .script)) (functions-exactly n g (p .bytes) (verdict-file n g (p .verdict)) .0 (p .verdict))
+
   -- The file that is written is the rewritten program's.
   pub written-is : writtenFile s g ≡ encodeProgram (rewrite (guidelineOf g) (script-program (p .script)))
   unfolding writtenFile programIn script-program

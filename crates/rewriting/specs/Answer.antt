@@ -19,6 +19,7 @@ use Rattle.rewriting.specs.declared.Rewritten.{Rewritten}
 
 -- "a logged function's body gains 6 then 7, a trigger's body gains 6 only, a function that is both gains 6 and 7 once. All else is copied.":
 -- the file that rewriting a script under a guideline gives has the bytes of the rewritten program.
+-- "The output has 4 records more for each distinct logged function and 2 for each other trigger": proofs/Calling.output-grows.
 unfoldable pub writtenFile : List ℕ → List ℕ → List ℕ
 writtenFile s g = encodeProgram (rewrite (guidelineOf g) (programIn s))
 

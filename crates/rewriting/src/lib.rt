@@ -18,7 +18,7 @@ pub struct Rewritten {
     pub records: u32,
 }
 
-// A refusal.
+// The answer of a refusal: no record was written.
 fn refused(v: Verdict) -> Rewritten
     ensures { λ r. ⌜ r ≡ refusedBy v ⌝ }
 {

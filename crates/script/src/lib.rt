@@ -43,7 +43,7 @@ enum Layout {
     Whole(Faults),
 }
 
-// A refusal.
+// A verdict that refuses, its place as a 32-bit number.
 fn refused(number: u32, place: usize) -> Verdict
     requires { ⌜ place < 2 ^ 32 ⌝ }
     ensures { λ r. ⌜ r ≡ verdict number place ⌝ }
@@ -399,7 +399,7 @@ fn check_placed(s: &[u8]) -> Verdict
     }
 }
 
-// By purpose.
+// Number 7: a rewritten run takes commands in their places, all else takes none.
 fn check_commands(s: &[u8], purpose: Purpose) -> Verdict
     requires { ⌜ count (now s) ≤ 65536 ⌝ }
     ensures { λ r. ⌜ r ≡ refuseIf 7 (due7 purpose (now (s .entry))) accepted ⌝ }

@@ -3,10 +3,10 @@ use mathlib.Core.Path.{_≡_, refl, sym, ap, _∙_}
 use mathlib.Core.List.{List, [], _∷_, _++_}
 use Prim.Native.Nat.{ℕ, zero, suc, _+_, _-_, _*_, _/_, _%_, _^_, _<_, _≤_}
 use native.Mathlib.Omega.{arith}
-use native.Mathlib.Nat.{pow-succ', mul-assoc, sub-zero, div-div-eq-div-mul}
+use native.Mathlib.Nat.{pow-succ', sub-zero, div-div-eq-div-mul}
 use native.Mathlib.Numerals.{add-one}
 use lib.ListN.{length, getD, take, drop, length-take, length-drop}
-use lib.Seq.{take-all, take-nil, take-append-seam, drop-append-add, drop-cons, getD-take, getD-drop, take-take, drop-drop, take-add}
+use lib.Seq.{take-all, take-nil, take-append-seam, drop-append-add, drop-cons, getD-drop, take-take, drop-drop, take-add}
 
 -- the value of a list of bytes
 unfoldable pub number : List ℕ → ℕ
@@ -37,12 +37,6 @@ unfolding bytes
 bytes-length zero x = refl
 bytes-length (suc w) x = ap suc (bytes-length w (x / 256))
 
-pub bytes-below : (w x : ℕ) → AllBytes (bytes w x)
-unfolding bytes
-bytes-below zero x i = omega arith
-bytes-below (suc w) x zero = omega arith
-bytes-below (suc w) x (suc i) = bytes-below w (x / 256) i
-
 pub number-bytes : (w x : ℕ) → x < 256 ^ w → number (bytes w x) ≡ x
 unfolding number bytes
 number-bytes zero x h = omega arith
@@ -66,12 +60,6 @@ bytes-number (b ∷ bs) h =
     let m : (b + 256 * number bs) % 256 ≡ b = omega arith in
     let d : (b + 256 * number bs) / 256 ≡ number bs = omega arith in
     rw (m, d) (ap (λ (t : List ℕ). b ∷ t) (bytes-number bs (λ i. h (suc i))))
-
--- two numbers side by side
-pub number-append : (xs ys : List ℕ) → number (xs ++ ys) ≡ number xs + 256 ^ length xs * number ys
-unfolding number
-number-append [] ys = omega arith
-number-append (x ∷ xs) ys = rw (pow-succ' 256 (length xs), mul-assoc 256 (256 ^ length xs) (number ys)) (omega (arith, number-append xs ys))
 
 -- ---- ranges
 
@@ -108,15 +96,6 @@ pub part-take : (xs : List ℕ) (i n p : ℕ) → i + n ≤ p → part (take p x
 unfolding part
 part-take xs i n p h = ap (take n) (drop-take i p xs) ∙ take-take n (p - i) (drop i xs) (omega arith)
 
--- a range that begins at or after p is one of the elements from p on
-pub part-drop : (xs : List ℕ) (i n p : ℕ) → p ≤ i → part (drop p xs) (i - p) n ≡ part xs i n
-unfolding part
-part-drop xs i n p h = let e : p + (i - p) ≡ i = omega arith in rw (drop-drop (i - p) p xs, e)
-
-pub part-part : (xs : List ℕ) (i n j m : ℕ) → j + m ≤ n → part (part xs i n) j m ≡ part xs (i + j) m
-unfolding part
-part-part xs i n j m h = part-take (drop i xs) j m n h ∙ ap (take m) (drop-drop j i xs)
-
 pub part-left : (xs ys : List ℕ) (i n : ℕ) → i + n ≤ length xs → part (xs ++ ys) i n ≡ part xs i n
 part-left xs ys i n h = sym (part-take (xs ++ ys) i n (length xs) h) ∙ ap (λ (t : List ℕ). part t i n) (take-append-seam xs ys)
 
@@ -128,14 +107,9 @@ pub part-cons : (xs : List ℕ) (i n : ℕ) → i < length xs → part xs i (n +
 unfolding part
 part-cons xs i n h = rw (add-one n, add-one i, drop-cons xs i 0 h)
 
-module _ (xs : List ℕ) (i n : ℕ) (fits : i + n ≤ length xs) where
-  pub part-length : length (part xs i n) ≡ n
-  unfolding part
-  part-length = simp (length-take, length-drop) (omega arith)
-
-  pub part-at : (j : ℕ) → j < n → getD (part xs i n) j 0 ≡ getD xs (i + j) 0
-  unfolding part
-  part-at j h = rw (getD-take, getD-drop)
+pub part-length : (xs : List ℕ) (i n : ℕ) → i + n ≤ length xs → length (part xs i n) ≡ n
+unfolding part
+part-length xs i n h = simp (length-take, length-drop) (omega arith)
 
 pub part-snoc : (xs : List ℕ) (i n : ℕ) → i + n < length xs → part xs i (n + 1) ≡ part xs i n ++ (getD xs (i + n) 0 ∷ [])
 part-snoc xs i n h =

@@ -1,12 +1,12 @@
 -- A lent buffer after its use: some bytes, zeros up to the size, and past the size what stood there before. Assumes nothing.
 use mathlib.Core.Path.{_≡_, refl, sym, ap, ap₂, _∙_}
-use mathlib.Core.List.{List, [], _∷_, _++_, append-assoc, append-nil}
+use mathlib.Core.List.{List, [], _∷_, _++_, append-assoc}
 use Prim.Native.Nat.{ℕ, zero, suc, _+_, _-_, _<_, _≤_}
 use native.Mathlib.Omega.{arith}
-use lib.ListN.{length, take, drop, set, getD, replicate, length-append, length-take, length-drop, length-replicate, replicate-append-replicate, drop-of-length-le}
-use lib.Seq.{take-at, take-all, drop-at, drop-drop, drop-length, drop-set-lt}
-use Rattle.words.specs.Bytes.{bytes, part, part-left}
-use Rattle.words.specs.Put.{put, put-drop, put-start, put-set, put-put, put-length}
+use lib.ListN.{length, take, drop, getD, replicate, length-append, length-take, length-drop, length-replicate, replicate-append-replicate, drop-of-length-le}
+use lib.Seq.{take-at, drop-at, drop-length}
+use Rattle.words.specs.Bytes.{bytes}
+use Rattle.words.specs.Put.{put, put-start, put-put}
 
 -- so many zeros
 abbrev pub zeros : ℕ → List ℕ
@@ -64,18 +64,9 @@ module _ (n : ℕ) (xs old : List ℕ) (fits : length xs ≤ n) where
   unfolding filled
   filled-length h = simp (length-append, length-replicate, length-drop) (omega arith)
 
-  pub filled-front : (m : ℕ) → length xs ≡ m → take m (filled n xs old) ≡ xs
-  unfolding filled
-  filled-front m e = take-at xs (zeros (n - length xs) ++ drop n old) m e
-
   pub filled-past : drop n (filled n xs old) ≡ drop n old
   unfolding filled
   filled-past = ap (drop n) (sym (append-assoc xs (zeros (n - length xs)) (drop n old))) ∙ drop-at (xs ++ zeros (n - length xs)) (drop n old) n head-length
-
-  -- a range of the bytes
-  pub filled-part : (i m : ℕ) → i + m ≤ length xs → part (filled n xs old) i m ≡ part xs i m
-  unfolding filled
-  filled-part i m h = part-left xs (zeros (n - length xs) ++ drop n old) i m h
 
   -- a later filling hides an earlier one
   pub filled-filled : (ys : List ℕ) → filled n ys (filled n xs old) ≡ filled n ys old
@@ -99,11 +90,6 @@ module _ (n : ℕ) (xs old : List ℕ) (fits : length xs ≤ n) where
       ap₂ (λ (a b : List ℕ). a ++ (vs ++ b)) (take-at xs (zeros (n - length xs) ++ drop n old) p e) (d ∙ ap (λ (k : ℕ). zeros k ++ drop n old) w)
       ∙ sym (append-assoc xs vs (zeros (n - length (xs ++ vs)) ++ drop n old))
 
--- nothing filled in yet
-pub filled-none : (old : List ℕ) → filled 0 [] old ≡ old
-unfolding filled
-filled-none old = refl
-
 -- zeros from the start
 pub filled-zeros : (n : ℕ) (old : List ℕ) → put old 0 (zeros n) ≡ filled n [] old
 unfolding filled
@@ -122,42 +108,6 @@ put-zeros n m xs old e h g =
     ∙ put-put old 0 xs (omega arith) (zeros (n - length xs))
     ∙ put-start old (xs ++ zeros (n - length xs))
     ∙ rw k (append-assoc xs (zeros (n - length xs)) (drop n old)))
-
--- one zero more
-pub filled-one : (i : ℕ) (old : List ℕ) → i < length old → set (filled i [] old) i 0 ≡ filled (i + 1) [] old
-filled-one i old h =
-    let l : length (put old 0 (zeros i)) ≡ length old = put-length old 0 (zeros i) (omega (arith, zeros-length i)) in
-    let e : 0 + length (zeros i) ≡ i = omega (arith, zeros-length i) in
-    ap (λ (t : List ℕ). set t i 0) (sym (filled-zeros i old))
-    ∙ put-set (put old 0 (zeros i)) i 0 (omega arith)
-    ∙ ap (λ (p : ℕ). put (put old 0 (zeros i)) p (0 ∷ [])) (sym e)
-    ∙ put-put old 0 (zeros i) (omega arith) (0 ∷ [])
-    ∙ ap (put old 0) (zeros-snoc i)
-    ∙ filled-zeros (i + 1) old
-
--- zeros in the part from p on are zeros in the whole
-pub part-zeros : (p n : ℕ) (b ys : List ℕ) → p + n ≤ length b → ys ≡ filled n [] (take (length b - p) (drop p b))
-    → take p b ++ (ys ++ drop (length b - p) (drop p b)) ≡ put b p (zeros n)
-unfolding filled put
-part-zeros p n b ys h e =
-    let l : length (drop p b) ≡ length b - p = length-drop p b in
-    let a : take (length b - p) (drop p b) ≡ drop p b = take-all (length b - p) (drop p b) (omega arith) in
-    let d : drop (length b - p) (drop p b) ≡ [] = let o : length (drop p b) ≤ length b - p = omega arith in drop-of-length-le (drop p b) o in
-    let q : p + length (zeros n) ≡ p + n = simp length-replicate (omega arith) in
-    let z : n - length {A = ℕ} [] ≡ n = omega arith in
-    ap₂ (λ (x y : List ℕ). take p b ++ (x ++ y)) (e ∙ ap (filled n []) a) d
-    ∙ ap (λ (x : List ℕ). take p b ++ x) (append-nil (filled n [] (drop p b)))
-    ∙ ap₂ (λ (k : ℕ) (x : List ℕ). take p b ++ (zeros k ++ x)) z (drop-drop n p b ∙ ap (λ (k : ℕ). drop k b) (sym q))
-
--- a store inside the size is hidden by a later filling
-pub filled-set : (n i v : ℕ) (ys old : List ℕ) → i < n → filled n ys (set old i v) ≡ filled n ys old
-unfolding filled
-filled-set n i v ys old h = ap (λ (l : List ℕ). ys ++ (zeros (n - length ys) ++ l)) (drop-set-lt n old i v h)
-
--- and so is a write
-pub filled-over : (n p : ℕ) (vs ys old : List ℕ) → p + length vs ≤ n → n ≤ length old → filled n ys (put old p vs) ≡ filled n ys old
-unfolding filled
-filled-over n p vs ys old h g = ap (λ (l : List ℕ). ys ++ (zeros (n - length ys) ++ l)) (put-drop old p vs (omega arith) n h)
 
 -- inside the size a filled buffer reads as its bytes, with 0 past them
 pub filled-at : (n i : ℕ) (xs old : List ℕ) → i < n → getD (filled n xs old) i 0 ≡ getD xs i 0

@@ -1,13 +1,12 @@
 -- A list written over another from a place on, and how writes compose. Assumes nothing.
-use mathlib.Core.Path.{_≡_, refl, sym, ap, ap₂, _∙_}
+use mathlib.Core.Path.{_≡_, sym, ap, ap₂, _∙_}
 use mathlib.Core.List.{List, [], _∷_, _++_, append-assoc}
-use native.Mathlib.Decide.{decLt}
-use Prim.Native.Nat.{ℕ, _+_, _-_, _^_, _<_, _≤_}
+use Prim.Native.Nat.{ℕ, _+_, _-_, _<_, _≤_}
 use native.Mathlib.Omega.{arith}
 use native.Mathlib.Nat.{add-zero}
 use lib.ListN.{length, take, drop, set, getD, length-append, length-take, length-drop, take-append-drop, List·getD-append}
-use lib.Seq.{take-at, drop-at, drop-drop, take-take, length-take-le, getD-take, getD-drop, ext-getD, sets, sets-eq}
-use Rattle.words.specs.Bytes.{bytes, number, numberAt, part, bytes-length, number-bytes, part-take, part-drop, part-part, part-length}
+use lib.Seq.{take-at, drop-at, drop-drop, take-take, length-take-le, getD-take, getD-drop, sets, sets-eq}
+use Rattle.words.specs.Bytes.{part}
 
 -- old with vs over it from p on
 unfoldable pub put : List ℕ → ℕ → List ℕ → List ℕ
@@ -74,17 +73,6 @@ module _ (old : List ℕ) (p : ℕ) (vs : List ℕ) (fits : p + length vs ≤ le
   unfolding part
   part-put n e = ap (take n) put-rest ∙ take-at vs (drop (p + length vs) old) n e
 
-  pub part-put-in : (i n : ℕ) → i + n ≤ length vs → part (put old p vs) (p + i) n ≡ part vs i n
-  part-put-in i n h = sym (part-part (put old p vs) p (length vs) i n h) ∙ ap (λ (t : List ℕ). part t i n) (part-put (length vs) refl)
-
-  pub part-put-before : (i n : ℕ) → i + n ≤ p → part (put old p vs) i n ≡ part old i n
-  part-put-before i n h = sym (part-take (put old p vs) i n p h) ∙ ap (λ (t : List ℕ). part t i n) put-front ∙ part-take old i n p h
-
-  pub part-put-after : (i n : ℕ) → p + length vs ≤ i → part (put old p vs) i n ≡ part old i n
-  part-put-after i n h =
-      let q : ℕ = p + length vs in
-      sym (part-drop (put old p vs) i n q h) ∙ ap (λ (t : List ℕ). part t (i - q) n) put-tail ∙ part-drop old i n q h
-
   -- ---- two writes
 
   -- the second where the first ended: one write
@@ -105,69 +93,15 @@ module _ (old : List ℕ) (p : ℕ) (vs : List ℕ) (fits : p + length vs ≤ le
       ap₂ (λ (x y : List ℕ). x ++ (us ++ y)) (put-take q (omega arith)) (ap (λ (k : ℕ). drop k (put old p vs)) e ∙ put-rest ∙ ap (λ (k : ℕ). vs ++ drop k old) n)
       ∙ ap (λ (x : List ℕ). take q old ++ x) (sym (append-assoc us vs (drop (q + length (us ++ vs)) old)))
 
-  -- the second covers the first: the first is lost
-  pub put-over : (ws : List ℕ) → length vs ≤ length ws → put (put old p vs) p ws ≡ put old p ws
-  unfolding put
-  put-over ws h = ap₂ (λ (x y : List ℕ). x ++ (ws ++ y)) put-front (put-drop (p + length ws) (omega arith))
-
-  -- a number that was written is read again
-  pub number-put : (w x : ℕ) → vs ≡ bytes w x → x < 256 ^ w → numberAt w (put old p vs) p ≡ x
-  number-put w x e h = ap number (part-put w (ap length e ∙ bytes-length w x) ∙ e) ∙ number-bytes w x h
-
 -- writing nothing
 pub put-none : (old : List ℕ) (p : ℕ) → put old p [] ≡ old
 unfolding put
 put-none old p = rw (add-zero p) (take-append-drop p old)
 
--- writing what stands there
-pub put-same : (old : List ℕ) (p n : ℕ) → p + n ≤ length old → put old p (part old p n) ≡ old
-unfolding put part
-put-same old p n h =
-    let e : length (take n (drop p old)) ≡ n = part-length old p n h in
-    rw (e, ← drop-drop n p old, take-append-drop n (drop p old)) (take-append-drop p old)
-
 -- a write at the start
 pub put-start : (old vs : List ℕ) → put old 0 vs ≡ vs ++ drop (length vs) old
 unfolding put
 put-start old vs = let e : 0 + length vs ≡ length vs = omega arith in rw e
-
--- two writes that do not meet, in either order
-pub put-swap : (old : List ℕ) (p : ℕ) (us : List ℕ) (q : ℕ) (vs : List ℕ) → p + length us ≤ q → q + length vs ≤ length old → put (put old q vs) p us ≡ put (put old p us) q vs
-put-swap old p us q vs a b =
-    let k : ℕ = p + length us in
-    let m : List ℕ = part old k (q - k) in
-    let l : length m ≡ q - k = part-length old k (q - k) (omega arith) in
-    let e : q ≡ k + length m = omega arith in
-    let f : q ≡ p + length (us ++ m) = omega (arith, length-append us m) in
-    let g : put old p us ≡ put old p (us ++ m) =
-    sym (put-same (put old p us) k (q - k) (omega (arith, put-length old p us (omega arith))))
-    ∙ ap (put (put old p us) k) (part-put-after old p us (omega arith) k (q - k) (omega arith))
-    ∙ put-put old p us (omega arith) m in
-    ap (λ (t : List ℕ). put (put t q vs) p us) (sym (put-same old k (q - k) (omega arith)))
-    ∙ ap (λ (x : ℕ). put (put (put old k m) x vs) p us) e
-    ∙ ap (λ (t : List ℕ). put t p us) (put-put old k m (omega arith) vs)
-    ∙ put-put-before old k (m ++ vs) (omega (arith, length-append m vs)) p us refl
-    ∙ ap (put old p) (sym (append-assoc us m vs))
-    ∙ sym (put-put old p (us ++ m) (omega arith) vs)
-    ∙ ap (λ (x : ℕ). put (put old p (us ++ m)) x vs) (sym f)
-    ∙ ap (λ (t : List ℕ). put t q vs) (sym g)
-
--- ---- by its elements: what is old before and after, and vs between, is the write
-
-module _ (old e : List ℕ) (p : ℕ) (vs : List ℕ) (fits : p + length vs ≤ length old) where
-  pub put-is : length e ≡ length old → ((i : ℕ) → i < p → getD e i 0 ≡ getD old i 0) → ((i : ℕ) → i < length vs → getD e (p + i) 0 ≡ getD vs i 0)
-      → ((i : ℕ) → p + length vs ≤ i → getD e i 0 ≡ getD old i 0) → e ≡ put old p vs
-  put-is l before inside after = ext-getD 0 e (put old p vs) (l ∙ sym (put-length old p vs fits)) (λ i h. first i (decLt i p))
-    where
-      second : (i : ℕ) → p ≤ i → Dec (i < p + length vs) → getD e i 0 ≡ getD (put old p vs) i 0
-      second i g (yes h) =
-          let q : i ≡ p + (i - p) = omega arith in
-          rw q (inside (i - p) (omega arith) ∙ sym (put-at old p vs fits (i - p) (omega arith)))
-      second i g (no h) = after i (omega arith) ∙ sym (put-at-after old p vs fits i (omega arith))
-
-      first : (i : ℕ) → Dec (i < p) → getD e i 0 ≡ getD (put old p vs) i 0
-      first i (yes h) = before i h ∙ sym (put-at-before old p vs fits i h)
-      first i (no h) = second i (omega arith) (decLt i (p + length vs))
 
 -- ---- stores
 

@@ -40,9 +40,6 @@ same-self (x ∷ xs) = rw (eq-eqb x x refl) (same-self xs)
 pub equal-same : (xs ys : List ℕ) → xs ≡ ys → sameBytes xs ys ≡ true
 equal-same xs ys e = ap (λ (t : List ℕ). sameBytes xs t) (sym e) ∙ same-self xs
 
-pub same-differ : (xs ys : List ℕ) → sameBytes xs ys ≡ false → xs ≡ ys → ⊥
-same-differ xs ys f e = let t : sameBytes xs ys ≡ true = equal-same xs ys e in let z : _≡_ {A = ℕ} 0 1 = cc in omega arith
-
 different-same : (xs ys : List ℕ) → (xs ≡ ys → ⊥) → (t : Bool) → sameBytes xs ys ≡ t → t ≡ false
 different-same xs ys h true e = absurd (h (same-equal xs ys e))
 different-same xs ys h false e = refl

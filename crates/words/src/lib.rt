@@ -132,17 +132,6 @@ pub fn clear(b: &mut [u8], n: usize)
     zero(b, 0, n);
 }
 
-// The first n bytes of u, and zeros up to the size.
-pub fn refill(b: &mut [u8], size: usize, u: &[u8], n: usize)
-    requires { ⌜ n ≤ size ⌝ }
-    requires { ⌜ size ≤ length (now b) ⌝ }
-    requires { ⌜ n ≤ length (now u) ⌝ }
-    ensures { λ _. ⌜ now (b .exit) ≡ filled size (part (now (u .entry)) 0 n) (now (b .entry)) ⌝ }
-{
-    copy(b, 0, u, 0, n);
-    zero(b, n, size - n);
-}
-
 // Moves to a lower place, the first byte first: what is yet to be read lies ahead of what is written.
 fn move_down(b: &mut [u8], to: usize, from: usize, n: usize)
     requires { ⌜ to ≤ from ⌝ }
