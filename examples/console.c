@@ -4,7 +4,9 @@
  *   ./console show.scr show.gl
  *
  * Two calls, as a console makes them: rewriting before the show, the run during it. lorgwin_rehearse does both in one. */
+#include <errno.h>
 #include <stdio.h>
+#include <stdlib.h>
 
 #include "lorgwin.h"
 
@@ -15,14 +17,16 @@ static uint8_t script[SCRIPT_BYTES], guideline[GUIDELINE_BYTES], rewritten[LORGW
 static uint8_t expression[LORGWIN_EXPRESSION_BYTES], scratch[LORGWIN_SCRATCH_BYTES];
 static uint8_t history[LORGWIN_HISTORY_BYTES], entries[LORGWIN_LOG_BYTES], table[LORGWIN_TABLE_BYTES];
 
-/* A missing file reads as empty. */
+/* A missing file reads as empty. One that is there and cannot be read ends the program: a guideline taken for empty would log nothing. */
 static size_t load(const char *name, uint8_t *bytes, size_t most) {
     FILE *file = fopen(name, "rb");
-    size_t n = 0;
-    if (file) {
-        n = fread(bytes, 1, most, file);
-        fclose(file);
+    if (!file && errno == ENOENT) return 0;
+    size_t n = file ? fread(bytes, 1, most, file) : 0;
+    if (!file || ferror(file)) {
+        perror(name);
+        exit(2);
     }
+    fclose(file);
     return n;
 }
 

@@ -1,7 +1,8 @@
 /* Lorgwin: the entries of the script engine for C. Build the archive with `rt staticlib console` and link target/staticlib/libconsole.a.
  *
- * Every entry ends, whatever it is given, and reads and writes nothing beyond the buffers that it is lent. Buffers must not overlap. A refusal
- * (number not 0) alters no lent byte, and all words after `place` are then 0. Numbers and places are those of the scope document. */
+ * Every entry ends, whatever it is given, and reads and writes nothing beyond the buffers that it is lent. No buffer that is written may overlap
+ * another argument of the same call, and no pointer is null, not even with length 0. A refusal (number not 0) alters no lent byte, and all words
+ * after `place` are then 0. docs/CONSOLE.md lists the numbers and their places. */
 #ifndef LORGWIN_H
 #define LORGWIN_H
 
@@ -12,7 +13,7 @@
 extern "C" {
 #endif
 
-/* A refusal's number and the first faulty record; 0 and 0 where nothing is refused. */
+/* A refusal's number and place; 0 and 0 where nothing is refused. */
 typedef struct {
     uint32_t number, place;
 } lorgwin_verdict;
@@ -66,9 +67,9 @@ lorgwin_rewriting lorgwin_rewrite(const uint8_t *script, size_t script_len, cons
  * buffer. */
 lorgwin_plain_run lorgwin_run_plain(const uint8_t *script, size_t script_len, uint32_t budget, uint8_t *expression, size_t expression_len, uint8_t *scratch, size_t scratch_len);
 
-/* Runs a rewritten script under its guideline, for at most `budget` steps: numbers 22, 23, 1 to 7, then 11 to 17. Leaves the last expression at
- * the front of its buffer, the entries of history and log in theirs, 16 bytes each (time, function, view kind, view number), and the derived
- * predicates in the table. */
+/* Runs a script that lorgwin_rewrite wrote under this same guideline (any other is run too, but its log may have gaps), for at most `budget`
+ * steps: numbers 22, 23, 1 to 7, then 11 to 17. Leaves the last expression at the front of its buffer, the entries of history and log in theirs,
+ * 16 bytes each (time, function, view kind, view number), and the derived predicates in the table. */
 lorgwin_rewritten_run lorgwin_run_rewritten(const uint8_t *script, size_t script_len, const uint8_t *guideline, size_t guideline_len, uint32_t budget, uint8_t *expression, size_t expression_len, uint8_t *scratch, size_t scratch_len, uint8_t *history, size_t history_len, uint8_t *log, size_t log_len, uint8_t *table, size_t table_len);
 
 /* Rewrites a script into `out` and runs what was written, as lorgwin_rewrite and lorgwin_run_rewritten do in turn: numbers 22, 23, then those

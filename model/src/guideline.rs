@@ -93,7 +93,7 @@ impl Record<'_> {
 }
 
 /// "Three sections: facts, rules, logged clauses." The kinds in a row are
-/// `1* (2 3+)* (4 5* (6|7|8)*)*` (reading 20); whether a kind may stand after the one before.
+/// `1* (2 3+)* (4 5* (6|7|8)*)*`; whether a kind may stand after the one before.
 fn may_follow(before: Option<u8>, kind: u8) -> bool {
     match kind {
         1 => matches!(before, None | Some(1)),
@@ -169,7 +169,7 @@ fn out_of_section(records: &[Record]) -> Option<usize> {
     (before == Some(2)).then_some(records.len())
 }
 
-/// "Every head variable occurs in the rule's body": all atoms up to the next head (reading 24).
+/// "Every head variable occurs in the rule's body": all atoms up to the next head (decision 8).
 fn unbound_head(records: &[Record]) -> Option<usize> {
     (0..records.len()).filter(|&place| records[place].kind() == 2).find(|&place| {
         let body: Vec<usize> = records[place + 1..]

@@ -1,8 +1,8 @@
-//! A plain model of document 01 (`01-scope.md`), written from its sentences alone.
+//! A plain model of document 01, written from its sentences alone.
 //!
 //! It is naive on purpose: terms are trees, predicates are worked out in rounds, triggers are
 //! searched one by one. The functions below mirror the engine's entries on byte slices. Quoted
-//! sentences are document 01's; "reading n" is an item of `READINGS.md`.
+//! sentences are document 01's; "decision n" is an item of the first list in docs/DECISIONS.md.
 
 pub mod demand;
 pub mod generate;

@@ -61,7 +61,7 @@ impl Record {
     }
 
     /// "The record kinds are 1 to 8, each with its own range of numbers"; those of 6, 7 and 8 are
-    /// all in range (reading 1).
+    /// all in range (decision 1).
     fn in_range(&self) -> bool {
         let number = match self.kind {
             1 => self.number <= 1_023,
@@ -245,7 +245,7 @@ fn in_place(records: &[Record], place: usize) -> bool {
 
 /// "A term reader stands on one record of a lent script and passes over a whole term to the
 /// record after it, going by kinds alone; where no whole term of kinds 1 to 7 begins, or no such
-/// record is, it answers none." A part of a record at the end is no record (reading 37).
+/// record is, it answers none." A part of a record at the end is no record (decision 13).
 pub fn pass_term(script: &[u8], record: u64) -> Option<u64> {
     let count = (script.len() / 8) as u64;
     let (mut at, mut wanted) = (record, 1);

@@ -41,57 +41,80 @@ fn passes(script: &[u8]) -> bool {
     pass_term(script, at) == Some(script.len() as u64 / 8)
 }
 
+/// How often each number and each outcome of each entry was seen, and how many log entries.
+#[derive(Default)]
+struct Seen {
+    numbers: BTreeMap<(&'static str, u32), u32>,
+    outcomes: BTreeMap<(&'static str, u32), u32>,
+    logged: u32,
+}
+
+impl Seen {
+    fn number(&mut self, entry: &'static str, verdict: Verdict) -> bool {
+        *self.numbers.entry((entry, verdict.number)).or_default() += 1;
+        verdict.number == 0
+    }
+
+    fn outcome(&mut self, entry: &'static str, outcome: u32) {
+        *self.outcomes.entry((entry, outcome)).or_default() += 1;
+    }
+}
+
+/// Checking, deriving and rewriting a case; gives the derived table.
+fn records(seed: u64, case: &Case, seen: &mut Seen) -> Vec<u8> {
+    let (script, guideline) = (&case.script, &case.guideline);
+    if seen.number("check", check(script, guideline)) {
+        assert!(passes(script), "seed {seed}: the term reader");
+    }
+
+    let mut lent = lend([case.out]);
+    let (verdict, count) = rewrite(script, guideline, &mut lent[0]);
+    untouched(seed, verdict, &lent, [count as usize * 8]);
+    if seen.number("rewrite", verdict) {
+        let wanted = script.len() as u32 / 8 + more_records(guideline);
+        assert_eq!(count, wanted, "seed {seed}: the count of records");
+    }
+
+    let mut lent = lend([case.table]);
+    let verdict = derive(guideline, &mut lent[0]);
+    untouched(seed, verdict, &lent, [TABLE]);
+    seen.number("derive", verdict);
+    let [derived] = lent;
+    derived
+}
+
+/// Both runs of a case.
+fn runs(seed: u64, case: &Case, derived: &[u8], seen: &mut Seen) {
+    let (script, guideline, budget) = (&case.script, &case.guideline, case.budget);
+    let mut lent = lend([case.expression, case.scratch]);
+    let [expression, scratch] = &mut lent;
+    let (verdict, outcome, _) = run_plain(script, budget, expression, scratch);
+    untouched(seed, verdict, &lent, [EXPRESSION, SCRATCH]);
+    if seen.number("plain", verdict) {
+        seen.outcome("plain", outcome);
+    }
+
+    let mut lent = lend([case.expression, case.scratch, case.history, case.log, case.table]);
+    let [expression, scratch, history, log, table] = &mut lent;
+    let (verdict, outcome, _, _, count) =
+        run_rewritten(script, guideline, budget, expression, scratch, history, log, table);
+    untouched(seed, verdict, &lent, [EXPRESSION, SCRATCH, HISTORY, LOG, TABLE]);
+    if seen.number("rewritten", verdict) {
+        assert!(lent[4][..TABLE] == derived[..TABLE], "seed {seed}: the tables differ");
+        seen.outcome("rewritten", outcome);
+        seen.logged += count;
+    }
+}
+
 #[test]
 fn entries() {
-    let mut numbers: BTreeMap<(&str, u32), u32> = BTreeMap::new();
-    let mut outcomes: BTreeMap<(&str, u32), u32> = BTreeMap::new();
-    let mut logged = 0;
+    let mut seen = Seen::default();
     for seed in 0..CASES {
         let case = Case::new(seed);
-        let (script, guideline) = (&case.script, &case.guideline);
-        let mut see = |entry, verdict: Verdict| {
-            *numbers.entry((entry, verdict.number)).or_default() += 1;
-            verdict.number == 0
-        };
-
-        if see("check", check(script, guideline)) {
-            assert!(passes(script), "seed {seed}: the term reader");
-        }
-
-        let mut lent = lend([case.table]);
-        let verdict = derive(guideline, &mut lent[0]);
-        untouched(seed, verdict, &lent, [TABLE]);
-        see("derive", verdict);
-        let [derived] = lent;
-
-        let mut lent = lend([case.out]);
-        let (verdict, count) = rewrite(script, guideline, &mut lent[0]);
-        untouched(seed, verdict, &lent, [count as usize * 8]);
-        if see("rewrite", verdict) {
-            let wanted = script.len() as u32 / 8 + more_records(guideline);
-            assert_eq!(count, wanted, "seed {seed}: the count of records");
-        }
-
-        let mut lent = lend([case.expression, case.scratch]);
-        let [expression, scratch] = &mut lent;
-        let (verdict, outcome, _) = run_plain(script, case.budget, expression, scratch);
-        untouched(seed, verdict, &lent, [EXPRESSION, SCRATCH]);
-        if see("plain", verdict) {
-            *outcomes.entry(("plain", outcome)).or_default() += 1;
-        }
-
-        let mut lent = lend([case.expression, case.scratch, case.history, case.log, case.table]);
-        let [expression, scratch, history, log, table] = &mut lent;
-        let budget = case.budget;
-        let (verdict, outcome, _, _, count) =
-            run_rewritten(script, guideline, budget, expression, scratch, history, log, table);
-        untouched(seed, verdict, &lent, [EXPRESSION, SCRATCH, HISTORY, LOG, TABLE]);
-        if see("rewritten", verdict) {
-            assert!(lent[4][..TABLE] == derived[..TABLE], "seed {seed}: the tables differ");
-            *outcomes.entry(("rewritten", outcome)).or_default() += 1;
-            logged += count;
-        }
+        let derived = records(seed, &case, &mut seen);
+        runs(seed, &case, &derived, &mut seen);
     }
+    let Seen { numbers, outcomes, logged } = seen;
     println!("numbers {numbers:?}\noutcomes {outcomes:?}\nlog entries {logged}");
 
     let script = 0..=7;
@@ -134,32 +157,42 @@ fn rewritten_run(script: &[u8], guideline: &[u8], budget: u64) -> (u32, u32, Vec
     (outcome, steps, expression, log)
 }
 
-#[test]
-fn demand_3_holds() {
+/// Demand 3 of the rewritten runs of some shows; it tells other runs apart.
+fn demand_3_of(shows: impl Iterator<Item = (Vec<u8>, Vec<u8>, u64)>) {
     let (mut full, mut logged) = (0, 0);
-    for seed in 0..CASES {
-        let rng = &mut Rng(seed);
-        let (script, guideline) = files(rng);
-        let budget = budget(rng, &script, &guideline);
-        if budget > BUDGET {
-            continue;
-        }
+    for (script, guideline, budget) in shows {
         let (outcome, steps, expression, log) = rewritten_run(&script, &guideline, budget);
+        let holds = |ended: &Ended| demand_3(&script, &guideline, budget, ended);
         let ended = Ended { outcome, steps, expression: &expression, log: &log };
-        assert_eq!(demand_3(&script, &guideline, budget, &ended), Ok(()), "seed {seed}");
-
-        // Demand 3 tells other runs apart.
-        let other = Ended { steps: steps + 1, ..ended };
-        assert!(demand_3(&script, &guideline, budget, &other).is_err(), "seed {seed}: steps");
-        let other = Ended { outcome: (outcome + 1) % 5, ..ended };
-        assert!(demand_3(&script, &guideline, budget, &other).is_err(), "seed {seed}: outcome");
-        if !log.is_empty() {
-            let other = Ended { log: &log[16..], ..ended };
-            assert!(demand_3(&script, &guideline, budget, &other).is_err(), "seed {seed}: log");
-        }
+        assert_eq!(holds(&ended), Ok(()));
+        assert!(holds(&Ended { steps: steps + 1, ..ended }).is_err(), "steps");
+        assert!(holds(&Ended { outcome: (outcome + 1) % 5, ..ended }).is_err(), "outcome");
+        assert!(log.is_empty() || holds(&Ended { log: &log[16..], ..ended }).is_err(), "log");
         full += u32::from(outcome == 4);
         logged += log.len() / 16;
     }
     println!("full histories {full}, log entries {logged}");
     assert!(full > 10 && logged > 1_000);
+}
+
+#[test]
+fn demand_3_holds() {
+    let show = |seed| {
+        let rng = &mut Rng(seed);
+        let (script, guideline) = files(rng);
+        let budget = budget(rng, &script, &guideline);
+        (script, guideline, budget)
+    };
+    demand_3_of((0..CASES).map(show).filter(|show| show.2 <= BUDGET));
+}
+
+/// Shows with long histories, as far as every choice of triggers can be tried. Some have commands
+/// already and are passed over.
+#[test]
+fn demand_3_holds_of_long_histories() {
+    let show = |seed| {
+        let case = Case::long(seed);
+        (case.script, case.guideline, case.demand)
+    };
+    demand_3_of((0..300).map(show).filter(|show| check(&show.0, &show.1) == Verdict::default()));
 }

@@ -94,75 +94,41 @@ extern "C" {
     ) -> RewrittenRun;
 }
 
+/// Calls an entry: the scripts and guidelines as pointer and length, then plain arguments, then the lent buffers as pointer and length.
+macro_rules! call {
+    ($entry:ident, [$($read:expr),*], [$($plain:expr),*], [$($lent:expr),*]) => {
+        unsafe { $entry($($read.as_ptr(), $read.len(),)* $($plain,)* $($lent.as_mut_ptr(), $lent.len()),*) }
+    };
+}
+
 pub fn check(script: &[u8], guideline: &[u8]) -> Verdict {
-    unsafe { lorgwin_check(script.as_ptr(), script.len(), guideline.as_ptr(), guideline.len()) }
+    call!(lorgwin_check, [script, guideline], [], [])
 }
 
 pub fn derive(guideline: &[u8], table: &mut [u8]) -> Verdict {
-    unsafe { lorgwin_derive(guideline.as_ptr(), guideline.len(), table.as_mut_ptr(), table.len()) }
+    call!(lorgwin_derive, [guideline], [], [table])
 }
 
 /// The record after the term, or none.
 pub fn pass_term(script: &[u8], record: u64) -> Option<u64> {
-    let next = unsafe { lorgwin_pass_term(script.as_ptr(), script.len(), record) };
+    let next = call!(lorgwin_pass_term, [script], [record], []);
     (next != u64::MAX).then_some(next)
 }
 
 pub fn rewrite(script: &[u8], guideline: &[u8], out: &mut [u8]) -> Rewriting {
-    unsafe { lorgwin_rewrite(script.as_ptr(), script.len(), guideline.as_ptr(), guideline.len(), out.as_mut_ptr(), out.len()) }
+    call!(lorgwin_rewrite, [script, guideline], [], [out])
 }
 
 pub fn run_plain(script: &[u8], budget: u32, expression: &mut [u8], scratch: &mut [u8]) -> PlainRun {
-    let (e, s) = (expression.len(), scratch.len());
-    unsafe { lorgwin_run_plain(script.as_ptr(), script.len(), budget, expression.as_mut_ptr(), e, scratch.as_mut_ptr(), s) }
+    call!(lorgwin_run_plain, [script], [budget], [expression, scratch])
 }
 
 /// The buffers are lent in the order expression, scratch, history, log, table.
-pub fn run_rewritten(script: &[u8], guideline: &[u8], budget: u32, lent: [&mut [u8]; 5]) -> RewrittenRun {
-    let [e, s, h, l, t] = lent;
-    unsafe {
-        lorgwin_run_rewritten(
-            script.as_ptr(),
-            script.len(),
-            guideline.as_ptr(),
-            guideline.len(),
-            budget,
-            e.as_mut_ptr(),
-            e.len(),
-            s.as_mut_ptr(),
-            s.len(),
-            h.as_mut_ptr(),
-            h.len(),
-            l.as_mut_ptr(),
-            l.len(),
-            t.as_mut_ptr(),
-            t.len(),
-        )
-    }
+pub fn run_rewritten(script: &[u8], guideline: &[u8], budget: u32, [e, s, h, l, t]: [&mut [u8]; 5]) -> RewrittenRun {
+    call!(lorgwin_run_rewritten, [script, guideline], [budget], [e, s, h, l, t])
 }
 
 /// The output, and the buffers in the same order.
-pub fn rehearse(script: &[u8], guideline: &[u8], budget: u32, out: &mut [u8], lent: [&mut [u8]; 5]) -> RewrittenRun {
-    let [e, s, h, l, t] = lent;
-    unsafe {
-        lorgwin_rehearse(
-            script.as_ptr(),
-            script.len(),
-            guideline.as_ptr(),
-            guideline.len(),
-            budget,
-            out.as_mut_ptr(),
-            out.len(),
-            e.as_mut_ptr(),
-            e.len(),
-            s.as_mut_ptr(),
-            s.len(),
-            h.as_mut_ptr(),
-            h.len(),
-            l.as_mut_ptr(),
-            l.len(),
-            t.as_mut_ptr(),
-            t.len(),
-        )
-    }
+pub fn rehearse(script: &[u8], guideline: &[u8], budget: u32, out: &mut [u8], [e, s, h, l, t]: [&mut [u8]; 5]) -> RewrittenRun {
+    call!(lorgwin_rehearse, [script, guideline], [budget], [out, e, s, h, l, t])
 }

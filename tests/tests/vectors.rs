@@ -373,3 +373,35 @@ fn listing_vectors() {
         assert!(out == file, "{}: the output differs", v.name);
     }
 }
+
+/// What the listing program prints in a folder with these two files; one that is empty is not there at all.
+fn printed(script: &[u8], guideline: &[u8]) -> String {
+    let folder = std::env::temp_dir().join(format!("lorgwin-listing-{}", std::process::id()));
+    std::fs::create_dir_all(&folder).unwrap();
+    for (name, bytes) in [("show.scr", script), ("show.gl", guideline)] {
+        if !bytes.is_empty() {
+            std::fs::write(folder.join(name), bytes).unwrap();
+        }
+    }
+    let program = concat!(env!("CARGO_MANIFEST_DIR"), "/../target/bin/listing");
+    let output = std::process::Command::new(program).current_dir(&folder).output().unwrap();
+    std::fs::remove_dir_all(&folder).unwrap();
+    assert!(output.status.success() && output.stderr.is_empty());
+    String::from_utf8(output.stdout).unwrap()
+}
+
+/// The program itself, on files: the vectors, among them shows with a file missing, and files of any length over the limit.
+#[test]
+fn listing_program() {
+    for v in vectors("listing") {
+        let wanted = v.wanted["text"].replace(',', "\n").replace(':', " ") + "\n";
+        assert_eq!(printed(&v.file("script"), &v.file("guideline")), wanted, "{}", v.name);
+    }
+    let constant = [3, 0, 0, 0, 1, 0, 0, 0];
+    let fact = [1, 0, 3, 3, 1, 0, 0, 0, 1, 0, 0, 0, 0, 0, 0, 0];
+    for more in [1, 7, 8, 100_000] {
+        assert_eq!(printed(&vec![0; 8192 + more], &[]), "1 0\n", "a script with {more} bytes too many");
+        assert_eq!(printed(&constant, &fact.repeat(512)[..4096 + more.min(4096)]), "11 0\n", "a guideline with {more} bytes too many");
+    }
+    assert_eq!(printed(&constant, &fact.repeat(256)), "value 0\n");
+}
