@@ -1,4 +1,5 @@
--- The marks of functions: the count of records that each one's body gains, read from a guideline's records. Assumes nothing.
+-- The marks of functions: the count of records that each one's body gains, 0, 2 or 4, read from a guideline's records. (In `machine` and above it
+-- a mark counts the commands before a body: 0, 1 or 2.) Assumes nothing.
 use mathlib.Core.Bool.{cond}
 use mathlib.Core.List.{List}
 use mathlib.Core.Path.{_≡_}

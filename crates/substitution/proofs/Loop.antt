@@ -2,7 +2,7 @@
 use mathlib.Core.Bool.{Bool, true, false, _&&_, true≢false}
 use mathlib.Core.List.{List, [], _∷_, _++_, append-assoc, append-nil}
 use mathlib.Core.Path.{_≡_, refl, sym, ap, ap₂, _∙_}
-use Prim.Native.Nat.{ℕ, suc, _+_, _-_, _*_, _≤_, _<_}
+use Prim.Native.Nat.{ℕ, suc, _+_, _-_, _*_, _/_, _≤_, _<_, min}
 use native.Mathlib.Omega.{arith}
 use borrow.Author.Tests.{eqb-true, eq-eqb, ne-eqb}
 use lib.Dec.{eqb}
@@ -125,6 +125,13 @@ module _ {s u o : List ℕ} {at lim : ℕ} {t : Term} where
           fit = omega (arith, a .fit, ap length (a .out-is), put-length o 0 (h .done) (omega (arith, a .pos-is, a .room, a .fit)));
           high = a .high;
         }
+
+    -- The loops come to an end.
+    pub round-less : Going s u o at lim t out st i from need depth pos → 0 < need → length s / 8 - (i + 1) < length s / 8 - i
+    round-less g h = let n = numbers g in omega arith
+
+    pub use-less : (j a b : ℕ) → Going s u o at lim t out st i from need depth pos → 0 < need → j ≤ i → 2 * (length s / 8 - (i + 1)) + min a 1 < 2 * (length s / 8 - j) + min b 1
+    use-less j a b g h l = let n = numbers g in omega arith
 
     module _ {done : List ℕ} where
       -- One record more that is passed and not yet written: what it leaves to come is gs′.

@@ -11,7 +11,7 @@ use borrow.Author.Needs.{needs}
 use lib.ListN.{length, length-set}
 use Rattle.terms.specs.Read.{termAt}
 use Rattle.substitution.proofs.Laws.{fits-at}
-use Rattle.substitution.proofs.Loop.{use-yes, use-no, Going, numbers, started, of-lam, of-app, of-use, of-full, of-kept, of-end}
+use Rattle.substitution.proofs.Loop.{use-yes, use-no, Going, numbers, round-less, use-less, started, of-lam, of-app, of-use, of-full, of-kept, of-end}
 use Rattle.substitution.proofs.Pieces.{done-is, full-is}
 use Rattle.substitution.proofs.substitute.Statement.{statement}
 use Rattle.substitution.proofs.substitute.Tie as tie
@@ -64,7 +64,7 @@ add-i : tie.Need-add-i Inv-loop2 μ-loop2 Inv-loop μ-loop
 add-i c = let n = numbers (c .before .before .before .loop2 .inv .0 _ (c .before .before .before .before .before .loop .inv .0)) in omega arith
 
 loop2-less : tie.Need-loop2-less Inv-loop2 μ-loop2 Inv-loop μ-loop
-loop2-less c = let n = numbers (c .before .before .before .loop2 .inv .0 _ (c .before .before .before .before .before .loop .inv .0)) in omega arith
+loop2-less c = round-less (c .before .before .before .loop2 .inv .0 _ (c .before .before .before .before .before .loop .inv .0)) (c .before .before .loop2-test .taken)
 
 loop2-again : tie.Need-loop2-again Inv-loop2 μ-loop2 Inv-loop μ-loop
 loop2-again c =
@@ -77,7 +77,7 @@ add-i-2 : tie.Need-add-i-2 Inv-loop2 μ-loop2 Inv-loop μ-loop
 add-i-2 c = let n = numbers (c .before .before .before .loop2 .inv .0 _ (c .before .before .before .before .before .loop .inv .0)) in omega arith
 
 loop2-less-2 : tie.Need-loop2-less-2 Inv-loop2 μ-loop2 Inv-loop μ-loop
-loop2-less-2 c = let n = numbers (c .before .before .before .loop2 .inv .0 _ (c .before .before .before .before .before .loop .inv .0)) in omega arith
+loop2-less-2 c = round-less (c .before .before .before .loop2 .inv .0 _ (c .before .before .before .before .before .loop .inv .0)) (c .before .before .loop2-test .taken)
 
 loop2-again-2 : tie.Need-loop2-again-2 Inv-loop2 μ-loop2 Inv-loop μ-loop
 loop2-again-2 c =
@@ -101,7 +101,7 @@ add-i-3 : tie.Need-add-i-3 Inv-loop2 μ-loop2 Inv-loop μ-loop
 add-i-3 c = let n = numbers (c .before .before .before .before .before .before .before .before .loop2 .inv .0 _ (c .before .before .before .before .before .before .before .before .before .before .loop .inv .0)) in omega arith
 
 loop2-less-3 : tie.Need-loop2-less-3 Inv-loop2 μ-loop2 Inv-loop μ-loop
-loop2-less-3 c = let n = numbers (c .before .before .before .before .before .before .before .before .loop2 .inv .0 _ (c .before .before .before .before .before .before .before .before .before .before .loop .inv .0)) in omega arith
+loop2-less-3 c = round-less (c .before .before .before .before .before .before .before .before .loop2 .inv .0 _ (c .before .before .before .before .before .before .before .before .before .before .loop .inv .0)) (c .before .before .before .before .before .before .before .loop2-test .taken)
 
 loop2-again-3 : tie.Need-loop2-again-3 Inv-loop2 μ-loop2 Inv-loop μ-loop
 loop2-again-3 c =
@@ -148,7 +148,9 @@ add-i-4 : tie.Need-add-i-4 Inv-loop2 μ-loop2 Inv-loop μ-loop
 add-i-4 c = let n = numbers (c .before .before .before .before .before .before .before .before .before .before .before .loop2 .inv .0 _ (c .before .before .before .before .before .before .before .before .before .before .before .before .before .loop .inv .0)) in omega arith
 
 loop-less : tie.Need-loop-less Inv-loop2 μ-loop2 Inv-loop μ-loop
-loop-less c = let n = numbers (c .before .before .before .before .before .before .before .before .before .before .before .loop2 .inv .0 _ (c .before .before .before .before .before .before .before .before .before .before .before .before .before .loop .inv .0)) in omega arith
+loop-less c =
+    let v = c .before .before .before .before .before .before .before .before .before .before .before .loop2 .inv in
+    use-less _ _ _ (v .0 _ (c .before .before .before .before .before .before .before .before .before .before .before .before .before .loop .inv .0)) (c .before .before .before .before .before .before .before .before .before .if2 .taken) (v .2)
 
 loop-again : tie.Need-loop-again Inv-loop2 μ-loop2 Inv-loop μ-loop
 loop-again c =
