@@ -1,0 +1,5 @@
+pub mod Tests
+pub mod Lists
+pub mod Early
+pub mod Calls
+pub mod Clauses
