@@ -1,9 +1,13 @@
 // The entries for C, as include/lorgwin.h declares them: answers are structs of words, by value.
-use plain::PlainRun;
-use refusal::Verdict;
-use rewriting::Rewritten;
-use rewritten::RewrittenRun;
-use terms::Passed;
+use answers::PlainWords;
+use answers::RewritingWords;
+use answers::RewrittenWords;
+use answers::VerdictWords;
+use answers::passed_word;
+use answers::plain_words;
+use answers::rewriting_words;
+use answers::rewritten_words;
+use answers::verdict_words;
 ghost use mathlib.Core.Path.{_≡_};
 ghost use Rattle.terms.specs.Walk.{passTerm};
 ghost use Rattle.records.specs.Entries.{checkOf, deriveOf};
@@ -11,47 +15,8 @@ ghost use Rattle.rewriting.specs.Answer as rewrites;
 ghost use Rattle.plain.specs.Answer as plains;
 ghost use Rattle.rewritten.specs.Answer as runs;
 ghost use Rattle.rehearsal.specs.Rehearsal as rehearsals;
-ghost use Rattle.console.specs.Answers.{wordsOf, leavesWords, derivedWords, passedWord, rewritingWords, writesWords, writtenWords, plainWords, ranWords, plainRunWords, rewrittenWords, loggedWords, rewrittenRunWords, rehearsesWords, rehearsalWords};
-
-#[repr(C)]
-pub struct VerdictWords {
-    pub number: u32,
-    pub place: u32,
-}
-
-#[repr(C)]
-pub struct RewritingWords {
-    pub number: u32,
-    pub place: u32,
-    pub records: u32,
-}
-
-#[repr(C)]
-pub struct PlainWords {
-    pub number: u32,
-    pub place: u32,
-    pub outcome: u32,
-    pub steps: u32,
-}
-
-#[repr(C)]
-pub struct RewrittenWords {
-    pub number: u32,
-    pub place: u32,
-    pub outcome: u32,
-    pub steps: u32,
-    pub history_count: u32,
-    pub log_count: u32,
-}
-
-fn verdict_words(v: Verdict) -> VerdictWords
-    ensures { λ r. ⌜ r ≡ wordsOf v ⌝ }
-{
-    VerdictWords {
-        number: v.number,
-        place: v.place,
-    }
-}
+ghost use Rattle.answers.specs.Answers.{wordsOf, passedWord};
+ghost use Rattle.console.specs.Left.{leavesWords, derivedWords, writesWords, writtenWords, ranWords, plainRunWords, loggedWords, rewrittenRunWords, rehearsesWords, rehearsalWords};
 
 #[no_mangle]
 pub extern "C" fn lorgwin_check(script: &[u8], guideline: &[u8]) -> VerdictWords
@@ -71,20 +36,7 @@ pub extern "C" fn lorgwin_derive(guideline: &[u8], table: &mut [u8]) -> VerdictW
 pub extern "C" fn lorgwin_pass_term(script: &[u8], at: u64) -> u64
     ensures { λ r. ⌜ r ≡ passedWord (passTerm (now (script .entry)) at) ⌝ }
 {
-    match records::pass_term(script, at as usize) {
-        Passed::Next(i) => i as u64,
-        Passed::Nothing => 0xffff_ffff_ffff_ffff,
-    }
-}
-
-fn rewriting_words(r: Rewritten) -> RewritingWords
-    ensures { λ w. ⌜ w ≡ rewritingWords r ⌝ }
-{
-    RewritingWords {
-        number: r.number,
-        place: r.place,
-        records: r.records,
-    }
+    passed_word(records::pass_term(script, at as usize))
 }
 
 #[no_mangle]
@@ -92,25 +44,6 @@ pub extern "C" fn lorgwin_rewrite(script: &[u8], guideline: &[u8], out: &mut [u8
     ensures { λ w. ⌜ writesWords (now (out .exit)) w ≡ writtenWords (rewrites.rewriting (now (script .entry)) (now (guideline .entry)) (now (out .entry))) ⌝ }
 {
     rewriting_words(rewriting::rewrite(script, guideline, out))
-}
-
-fn plain_words(r: PlainRun) -> PlainWords
-    ensures { λ w. ⌜ w ≡ plainWords r ⌝ }
-{
-    match r {
-        PlainRun::Refused(refusal) => PlainWords {
-            number: refusal.number,
-            place: refusal.place,
-            outcome: 0,
-            steps: 0,
-        },
-        PlainRun::Ran(outcome, steps) => PlainWords {
-            number: 0,
-            place: 0,
-            outcome: machine::outcome_number(outcome),
-            steps: steps,
-        },
-    }
 }
 
 #[no_mangle]
@@ -123,29 +56,6 @@ pub extern "C" fn lorgwin_run_plain(
     ensures { λ w. ⌜ ranWords w (now (expression .exit)) (now (scratch .exit)) ≡ plainRunWords (plains.plainOf (now (script .entry)) budget (now (expression .entry)) (now (scratch .entry))) ⌝ }
 {
     plain_words(plain::plain(script, budget, expression, scratch))
-}
-
-fn rewritten_words(r: RewrittenRun) -> RewrittenWords
-    ensures { λ w. ⌜ w ≡ rewrittenWords r ⌝ }
-{
-    match r {
-        RewrittenRun::Refused(refusal) => RewrittenWords {
-            number: refusal.number,
-            place: refusal.place,
-            outcome: 0,
-            steps: 0,
-            history_count: 0,
-            log_count: 0,
-        },
-        RewrittenRun::Ran(outcome, counts) => RewrittenWords {
-            number: 0,
-            place: 0,
-            outcome: machine::outcome_number(outcome),
-            steps: counts.steps,
-            history_count: counts.history,
-            log_count: counts.log,
-        },
-    }
 }
 
 #[no_mangle]

@@ -1,6 +1,6 @@
 -- `lorgwin_check` meets its contract.
 use mathlib.Core.Path.{ap, _∙_}
-use Rattle.console.specs.Answers.{wordsOf}
+use Rattle.answers.specs.Answers.{wordsOf}
 use borrow.Author.Needs.{needs}
 use Rattle.console.proofs.lorgwin_check.Statement.{statement}
 use Rattle.console.proofs.lorgwin_check.Tie as tie

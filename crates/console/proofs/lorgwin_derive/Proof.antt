@@ -4,8 +4,9 @@ use mathlib.Core.Path.{_≡_, ap}
 use Prim.Native.Nat.{ℕ}
 use Rattle.refusal.specs.declared.Verdict.{Verdict}
 use Rattle.records.specs.Entries.{Derived, leaves}
-use Rattle.console.specs.Answers.{wordsOf, leavesWords, derivedWords}
-use Rattle.console.specs.declared.VerdictWords.{VerdictWords}
+use Rattle.answers.specs.Answers.{wordsOf}
+use Rattle.console.specs.Left.{leavesWords, derivedWords}
+use Rattle.answers.specs.declared.VerdictWords.{VerdictWords}
 use borrow.Author.Needs.{needs}
 use Rattle.console.proofs.lorgwin_derive.Statement.{statement}
 use Rattle.console.proofs.lorgwin_derive.Tie as tie

@@ -5,8 +5,9 @@ use Prim.Native.Nat.{ℕ}
 use Rattle.rewritten.specs.Answer as runs
 use Rattle.rewritten.specs.declared.RewrittenRun.{RewrittenRun}
 use Rattle.rehearsal.specs.Rehearsal.{After, after}
-use Rattle.console.specs.Answers.{rewrittenWords, loggedWords, rehearsesWords, rehearsalWords}
-use Rattle.console.specs.declared.RewrittenWords.{RewrittenWords}
+use Rattle.answers.specs.Answers.{rewrittenWords}
+use Rattle.console.specs.Left.{loggedWords, rehearsesWords, rehearsalWords}
+use Rattle.answers.specs.declared.RewrittenWords.{RewrittenWords}
 use borrow.Author.Needs.{needs}
 use Rattle.console.proofs.lorgwin_rehearse.Statement.{statement}
 use Rattle.console.proofs.lorgwin_rehearse.Tie as tie

@@ -4,8 +4,9 @@ use mathlib.Core.Path.{_≡_, ap}
 use Prim.Native.Nat.{ℕ}
 use Rattle.rewriting.specs.Answer.{After, after}
 use Rattle.rewriting.specs.declared.Rewritten.{Rewritten}
-use Rattle.console.specs.Answers.{rewritingWords, writesWords, writtenWords}
-use Rattle.console.specs.declared.RewritingWords.{RewritingWords}
+use Rattle.answers.specs.Answers.{rewritingWords}
+use Rattle.console.specs.Left.{writesWords, writtenWords}
+use Rattle.answers.specs.declared.RewritingWords.{RewritingWords}
 use borrow.Author.Needs.{needs}
 use Rattle.console.proofs.lorgwin_rewrite.Statement.{statement}
 use Rattle.console.proofs.lorgwin_rewrite.Tie as tie

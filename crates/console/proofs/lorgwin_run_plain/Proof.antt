@@ -4,8 +4,9 @@ use mathlib.Core.Path.{_≡_, ap}
 use Prim.Native.Nat.{ℕ}
 use Rattle.plain.specs.Answer.{After, after}
 use Rattle.plain.specs.declared.PlainRun.{PlainRun}
-use Rattle.console.specs.Answers.{plainWords, ranWords, plainRunWords}
-use Rattle.console.specs.declared.PlainWords.{PlainWords}
+use Rattle.answers.specs.Answers.{plainWords}
+use Rattle.console.specs.Left.{ranWords, plainRunWords}
+use Rattle.answers.specs.declared.PlainWords.{PlainWords}
 use borrow.Author.Needs.{needs}
 use Rattle.console.proofs.lorgwin_run_plain.Statement.{statement}
 use Rattle.console.proofs.lorgwin_run_plain.Tie as tie

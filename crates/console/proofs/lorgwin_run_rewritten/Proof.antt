@@ -4,8 +4,9 @@ use mathlib.Core.Path.{_≡_, ap}
 use Prim.Native.Nat.{ℕ}
 use Rattle.rewritten.specs.Answer.{After, after}
 use Rattle.rewritten.specs.declared.RewrittenRun.{RewrittenRun}
-use Rattle.console.specs.Answers.{rewrittenWords, loggedWords, rewrittenRunWords}
-use Rattle.console.specs.declared.RewrittenWords.{RewrittenWords}
+use Rattle.answers.specs.Answers.{rewrittenWords}
+use Rattle.console.specs.Left.{loggedWords, rewrittenRunWords}
+use Rattle.answers.specs.declared.RewrittenWords.{RewrittenWords}
 use borrow.Author.Needs.{needs}
 use Rattle.console.proofs.lorgwin_run_rewritten.Statement.{statement}
 use Rattle.console.proofs.lorgwin_run_rewritten.Tie as tie

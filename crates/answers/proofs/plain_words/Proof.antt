@@ -1,9 +1,9 @@
 -- `plain_words` meets its contract.
 use mathlib.Core.Path.{sym, ap}
-use Rattle.console.specs.Answers.{plainWords}
+use Rattle.answers.specs.Answers.{plainWords}
 use borrow.Author.Needs.{needs}
-use Rattle.console.proofs.plain_words.Statement.{statement}
-use Rattle.console.proofs.plain_words.Tie as tie
+use Rattle.answers.proofs.plain_words.Statement.{statement}
+use Rattle.answers.proofs.plain_words.Tie as tie
 
 enum-known-r : tie.Need-enum-known-r
 enum-known-r c = search needs

@@ -1,9 +1,9 @@
 -- `rewritten_words` meets its contract.
 use mathlib.Core.Path.{sym, ap}
-use Rattle.console.specs.Answers.{rewrittenWords}
+use Rattle.answers.specs.Answers.{rewrittenWords}
 use borrow.Author.Needs.{needs}
-use Rattle.console.proofs.rewritten_words.Statement.{statement}
-use Rattle.console.proofs.rewritten_words.Tie as tie
+use Rattle.answers.proofs.rewritten_words.Statement.{statement}
+use Rattle.answers.proofs.rewritten_words.Tie as tie
 
 enum-known-r : tie.Need-enum-known-r
 enum-known-r c = search needs

@@ -9,7 +9,7 @@ use Rattle.terms.specs.Walk.{passTerm}
 use Rattle.terms.specs.declared.Passed.{Passed}
 use Rattle.terms.specs.declared.Passed.the-variants.{Next, Nothing}
 use Rattle.terms.proofs.Pass.{pass-within}
-use Rattle.console.specs.Answers.{passedWord}
+use Rattle.answers.specs.Answers.{passedWord}
 
 -- In a script that can be lent, it is answered exactly where no whole term begins.
 pub no-term-exactly : (s : List ℕ) (i : ℕ) → length s < 2 ^ 64 → (passedWord (passTerm s i) ≡ 18446744073709551615) ↔ (passTerm s i ≡ Nothing)
