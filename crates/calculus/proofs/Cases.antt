@@ -1,4 +1,4 @@
--- The ten cases, by computing. Assumes nothing.
+-- The ten cases and those of sums and branches, by computing. Assumes nothing.
 use mathlib.Core.Path.{_≡_, refl}
 use mathlib.Core.Bool.{true, false}
 use mathlib.Core.List.{[], _∷_, List·Memᴰ, List·Memᴰ·head, List·Memᴰ·tail, List·Memᴰ·eq-of-singleton}
@@ -9,13 +9,13 @@ use Rattle.calculus.specs.Lists.{any, all, keep, each, distinct}
 use Rattle.calculus.specs.Term.{isValue, view, size, bodies}
 use Rattle.calculus.specs.Guideline.{Atom, In, SafeRule, Safe}
 use Rattle.calculus.specs.Substitution.{put}
-use Rattle.calculus.specs.Step.{step}
+use Rattle.calculus.specs.Step as S
 use Rattle.calculus.specs.Derive.{holds, derived, rounds, nextRound, yields, given, candidates, predicates, values, appearing}
 use Rattle.calculus.specs.Entailment.{fits, entails?}
 use Rattle.calculus.specs.Rewriting.{logevents, triggers, logged, noted, instrument, rewriteFrom}
 use Rattle.calculus.specs.Run.{run}
 use Rattle.calculus.specs.Log as L
-use Rattle.calculus.specs.Cases.{TenCases, atom, closure, constant}
+use Rattle.calculus.specs.Cases.{TenCases, SumCases, atom, closure, constant}
 use Rattle.calculus.proofs.Lists.{true-T, false-T}
 use Rattle.calculus.proofs.Least.{holds-least}
 
@@ -50,7 +50,7 @@ closure-safe r (List·Memᴰ·head e) = rw e base-safe
 closure-safe r (List·Memᴰ·tail m) = rw (List·Memᴰ·eq-of-singleton m) step-safe
 
 ten : TenCases
-unfolding any all keep each distinct isValue view size bodies put step holds derived rounds nextRound yields given candidates predicates values appearing fits entails? logevents triggers logged noted instrument rewriteFrom run L.emitCall L.settle L.logTick L.logged
+unfolding any all keep each distinct isValue view size bodies put S.step holds derived rounds nextRound yields given candidates predicates values appearing fits entails? logevents triggers logged noted instrument rewriteFrom run L.emitCall L.settle L.logTick L.logged
 ten =
     record {
       a = refl;
@@ -63,4 +63,20 @@ ten =
       h = (holds-least closure closure-safe 1 (constant 1) (constant 3) .0 (true-T _ up), λ l. false-T _ down (holds-least closure closure-safe 1 (constant 3) (constant 1) .1 l));
       i = refl;
       j = refl;
+    }
+
+pub sums : SumCases
+unfolding any all keep each distinct isValue view size bodies put S.constant S.step holds derived rounds nextRound yields given candidates predicates values appearing fits entails? logevents triggers logged noted instrument rewriteFrom run L.emitCall L.settle L.logTick L.logged
+sums =
+    record {
+      spaced = refl;
+      greatest = refl;
+      above = refl;
+      both = refl;
+      second = refl;
+      third = refl;
+      third-too = refl;
+      on-name = refl;
+      on-abstraction = refl;
+      applied = refl;
     }

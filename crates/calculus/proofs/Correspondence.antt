@@ -5,14 +5,14 @@ use mathlib.Core.Path.{_≡_, refl, sym, ap, _∙_}
 use Prim.Native.Nat.{ℕ, suc, pred}
 use lib.Dec.{T, eqb, ltb}
 use Rattle.calculus.specs.Term.{Term, Codebase, Program, codebase, isValue, Bare, BareCode, BareProgram}
-use Rattle.calculus.specs.Term.Term.{var, fun, con, lam, app, callEvent, emit}
+use Rattle.calculus.specs.Term.Term.{var, fun, con, lam, app, callEvent, emit, sum, branch}
 use Rattle.calculus.specs.Substitution.{shift, substitute}
 use Rattle.calculus.specs.Step.{Event}
 use Rattle.calculus.specs.Step.Event.{quiet}
 use Rattle.calculus.specs.Step.Next.{next}
 use Rattle.calculus.specs.Rules.{Context, plug, Reduces}
-use Rattle.calculus.specs.Rules.Context.{[], applied, argument}
-use Rattle.calculus.specs.Rules.Reduces.{β, βCall, context}
+use Rattle.calculus.specs.Rules.Context.{[], applied, argument, augend, addend, condition}
+use Rattle.calculus.specs.Rules.Reduces.{β, βCall, add, second, third, context}
 use Rattle.calculus.specs.Guideline.{Guideline, Safe}
 use Rattle.calculus.specs.Rewriting as R
 use Rattle.calculus.specs.Rewriting.{logged, instrument, instrumented, rewrittenCode}
@@ -22,9 +22,10 @@ use Rattle.calculus.specs.Log.{Conf, State, at, noteCall, emitCall, tick
 use Rattle.calculus.specs.LogRules.{Runs, LogTraces}
 use Rattle.calculus.specs.LogRules.Runs.{Λcall, Precondition}
 use Rattle.calculus.specs.Correspondence.{Ends, Corresponds, SemanticsPreserving}
-use Rattle.calculus.proofs.Steps.{not-stuck-next}
+use Rattle.calculus.proofs.Steps.{Added, Chosen, addition-next, choice-next, not-stuck-next}
+use Rattle.calculus.proofs.Steps.Chosen.{onZero, onOther}
 use Rattle.calculus.proofs.Rules.{contractCall, contract, Becomes, becomes-ready, becomes-unique, apart-hole}
-use Rattle.calculus.proofs.Rules.Becomes.{contracted, noted, emitted}
+use Rattle.calculus.proofs.Rules.Becomes.{contracted, added, chosen, noted, emitted}
 use Rattle.calculus.proofs.LogRules.{Runs∗, then-runs, context-runs, trace-runs, emit-runs, log-apart}
 use Rattle.calculus.proofs.Demand3.{rewritten-codebase, codebase-bare}
 
@@ -63,6 +64,9 @@ module _ (G : Guideline) (safe : Safe G) (C : Codebase) where
       let (s′, r) = commands-run f v b (tick s) in
       let one : Runs G (rewrittenCode G C) (at (app (fun f) v) s) (at (substitute 0 v (instrument G f b)) (tick s)) = Λcall (βCall p (ap (instrumented G f) c) refl) refl refl in
       (s′, rw h (then-runs G (rewrittenCode G C) (Runs∗.more (Runs∗.none refl) one) r))
+  step-runs (add l h) s = (tick s, Runs∗.more (Runs∗.none refl) (Λcall (add l h) refl refl))
+  step-runs (second h) s = (tick s, Runs∗.more (Runs∗.none refl) (Λcall (second h) refl refl))
+  step-runs (third h) s = (tick s, Runs∗.more (Runs∗.none refl) (Λcall (third h) refl refl))
   step-runs (context E r h h′) s = let (s′, t) = step-runs r s in (s′, rw (h, h′) (context-runs G (rewrittenCode G C) E t))
 
   -- So each trace of the source has one of the target that ends on the same expression.
@@ -94,6 +98,8 @@ shift-bare c (lam l b) p = shift-bare (suc c) b p
 shift-bare c (app a b) p = (shift-bare c a (p .0), shift-bare c b (p .1))
 shift-bare c (callEvent f a r) p = absurd p
 shift-bare c (emit f a r) p = absurd p
+shift-bare c (sum a b) p = (shift-bare c a (p .0), shift-bare c b (p .1))
+shift-bare c (branch e a b) p = (shift-bare c e (p .0), shift-bare c a (p .1), shift-bare c b (p .2))
 
 -- … nor substituting a value without commands, …
 substitute-bare : (d : ℕ) (v e : Term) → Bare v → Bare e → Bare (substitute d v e)
@@ -110,6 +116,8 @@ substitute-bare d v (lam l b) p q = substitute-bare (suc d) (shift 0 v) b (shift
 substitute-bare d v (app a b) p q = (substitute-bare d v a p (q .0), substitute-bare d v b p (q .1))
 substitute-bare d v (callEvent f a r) p q = absurd q
 substitute-bare d v (emit f a r) p q = absurd q
+substitute-bare d v (sum a b) p q = (substitute-bare d v a p (q .0), substitute-bare d v b p (q .1))
+substitute-bare d v (branch c a b) p q = (substitute-bare d v c p (q .0), substitute-bare d v a p (q .1), substitute-bare d v b p (q .2))
 
 -- … nor another term without commands in a context's hole; what stood in the hole had none.
 plug-bare : (E : Context) (m : Term) → Bare (plug E m) → Bare m × ((r : Term) → Bare r → Bare (plug E r))
@@ -117,6 +125,9 @@ unfolding plug
 plug-bare [] m p = (p, λ r q. q)
 plug-bare (applied E b) m p = let (x, y) = plug-bare E m (p .0) in (x, λ r q. (y r q, p .1))
 plug-bare (argument v s E) m p = let (x, y) = plug-bare E m (p .1) in (x, λ r q. (p .0, y r q))
+plug-bare (augend E b) m p = let (x, y) = plug-bare E m (p .0) in (x, λ r q. (y r q, p .1))
+plug-bare (addend v s E) m p = let (x, y) = plug-bare E m (p .1) in (x, λ r q. (p .0, y r q))
+plug-bare (condition E a b) m p = let (x, y) = plug-bare E m (p .0) in (x, λ r q. (y r q, p .1, p .2))
 
 -- ---- from the target to the source
 
@@ -187,10 +198,27 @@ module _ (G : Guideline) (C : Codebase) (code : BareCode C) (e : Term) where
   follows-redex E (app a b) v r p q c h k = not-stuck-next q
   follows-redex E (callEvent f a b) v r p q c h k = not-stuck-next q
   follows-redex E (emit f a b) v r p q c h k = not-stuck-next q
+  follows-redex E (sum a b) v r p q c h k = not-stuck-next q
+  follows-redex E (branch d a b) v r p q c h k = not-stuck-next q
+
+  -- A step at a sum of two values, …
+  follows-sum : {τ : Sequence Conf} {κ : Conf} {ev : Event} (E : Context) (a b r : Term) → Added a b ev r → Comes (last τ .expr) → last τ .expr ≡ plug E (sum a b) → κ .expr ≡ plug E r → Follows (then τ κ)
+  follows-sum E a b r d c h k = level-at k (comes-on {ev = quiet} E c h (rw (d .result) tt) (λ n. rw (d .left, d .right) (add (d .fits) (d .result))))
+
+  -- … and at a branch on a value.
+  follows-branch : {τ : Sequence Conf} {κ : Conf} {ev : Event} (E : Context) (d a b r : Term) → Chosen d a b ev r → Comes (last τ .expr) → last τ .expr ≡ plug E (branch d a b) → κ .expr ≡ plug E r → Follows (then τ κ)
+  follows-branch E d a b r (onZero p q u) c h k =
+      let (x, y, z) = plug-bare E _ (rw h at (c .bare)) .0 in
+      level-at k (comes-on {ev = quiet} E c h (rw u y) (λ n. rw p (second u)))
+  follows-branch E d a b r (onOther i p q u) c h k =
+      let (x, y, z) = plug-bare E _ (rw h at (c .bare)) .0 in
+      level-at k (comes-on {ev = quiet} E c h (rw u z) (λ n. rw p (third u)))
 
   -- From an expression without commands the target's step is at a redex.
   follows-step : {τ : Sequence Conf} {κ : Conf} {ev : Event} (E : Context) (m r : Term) → Becomes (rewrittenCode G C) m ev r → Comes (last τ .expr) → last τ .expr ≡ plug E m → κ .expr ≡ plug E r → Follows (then τ κ)
   follows-step E m r (contracted {a = a} {v = v} p q j) c h k = follows-redex E a v r q j c h k
+  follows-step E m r (added {a = a} {b = b} {ev = ev} p q j) c h k = follows-sum E a b r (addition-next a b r ev j) c h k
+  follows-step E m r (chosen {c = d} {a = a} {b = b} {ev = ev} p j) c h k = follows-branch E d a b r (choice-next d a b r ev j) c h k
   follows-step E m r noted c h k = absurd (plug-bare E _ (rw h at (c .bare)) .0)
   follows-step E m r emitted c h k = absurd (plug-bare E _ (rw h at (c .bare)) .0)
 

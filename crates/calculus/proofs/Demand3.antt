@@ -10,7 +10,7 @@ use lib.Dec.{leb, ltb, leb→le, nleb→lt}
 use lib.ListN.{length, length-append}
 use Rattle.calculus.specs.Lists.{keep, each}
 use Rattle.calculus.specs.Term.{Term, Codebase, Program, records, size, bodies, codebase, Bare, BareCode, BareProgram}
-use Rattle.calculus.specs.Term.Term.{var, fun, con, lam, app, callEvent, emit}
+use Rattle.calculus.specs.Term.Term.{var, fun, con, lam, app, callEvent, emit, sum, branch}
 use Rattle.calculus.specs.Step.{Event, Next, step}
 use Rattle.calculus.specs.Step.Event.{quiet, calls}
 use Rattle.calculus.specs.Step.Next.{atValue, atStuck, next}
@@ -41,6 +41,8 @@ begins-bare (lam l b) p = refl
 begins-bare (app a b) p = refl
 begins-bare (callEvent f a r) p = absurd p
 begins-bare (emit f a r) p = absurd p
+begins-bare (sum a b) p = refl
+begins-bare (branch c a b) p = refl
 
 -- The rewritten body of a function begins with 6 where its calls are noted.
 begins-noted : (G : Guideline) (f : ℕ) (b : Term) → Bare b → L.beginsWithCallEvent (some (instrument G f b)) ≡ noted G f

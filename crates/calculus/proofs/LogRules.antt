@@ -6,24 +6,24 @@ use native.Mathlib.Omega.{arith}
 use Prim.Native.Nat.{ℕ, zero, suc}
 use lib.Dec.{T, leb}
 use Rattle.calculus.specs.Term.{Term, Codebase, ClosedCode, ClosedTerm, isValue, size}
-use Rattle.calculus.specs.Term.Term.{var, fun, con, lam, app, callEvent, emit}
+use Rattle.calculus.specs.Term.Term.{var, fun, con, lam, app, callEvent, emit, sum, branch}
 use Rattle.calculus.specs.Step.{Event, Next, step}
 use Rattle.calculus.specs.Step.Event.{quiet}
 use Rattle.calculus.specs.Step.Next.{atValue, atStuck, next}
 use Rattle.calculus.specs.Rules.{Context, plug, Reduces}
-use Rattle.calculus.specs.Rules.Context.{[], applied, argument}
+use Rattle.calculus.specs.Rules.Context.{[], applied, argument, augend, addend, condition}
 use Rattle.calculus.specs.Guideline.{Guideline, Safe}
 use Rattle.calculus.specs.Entailment.{Entails, entails?}
 use Rattle.calculus.specs.Run.{Outcome, Tick, run, ended, onward, limit}
 use Rattle.calculus.specs.Run.Tick.{halt, stop, go}
-use Rattle.calculus.specs.Log.{Conf, State, at, triple, noteCall, addEntry, emitCall, tick, settle, functionSettled, isFull, logNext, logTick, logged, fresh}
+use Rattle.calculus.specs.Log.{Conf, State, at, triple, noteCall, addEntry, emitCall, tick, settle, firstSettled, isFull, logNext, logTick, logged, fresh}
 use Rattle.calculus.specs.Trace.{Sequence, last}
 use Rattle.calculus.specs.Trace.Sequence.{alone, then}
 use Rattle.calculus.specs.LogRules.{Runs, LogTraces}
 use Rattle.calculus.specs.LogRules.Runs.{Λcall, Precondition, Log, NoLog, context}
 use Rattle.calculus.proofs.Lists.{true-T, false-T}
 use Rattle.calculus.proofs.Entailment.{entails-decides}
-use Rattle.calculus.proofs.Rules.{step-reduces, Apart, apart, apart-here, apart-within, apart-applied, becomes-ready, becomes-unique, ready-unique, reduces-time}
+use Rattle.calculus.proofs.Rules.{step-reduces, Apart, apart, apart-here, apart-within, Computes, apart-computes, becomes-ready, becomes-unique, ready-unique, reduces-time}
 use Rattle.calculus.proofs.Rules.Becomes.{noted, emitted}
 use Rattle.calculus.proofs.Scope.{step-closed}
 
@@ -71,14 +71,23 @@ module _ (G : Guideline) (safe : Safe G) (C : Codebase) where
   settle-runs (lam l b) s = none refl
   settle-runs (app a b) s = on (settle G a s) (settle-runs a s) (λ s′. settle-runs b s′)
     where
-      on : (κ : Conf) → Runs∗ G C (at a s) κ → ((s′ : State) → Runs∗ G C (at b s′) (settle G b s′)) → Runs∗ G C (at (app a b) s) (functionSettled b (λ s′. settle G b s′) (isValue (κ .expr)) κ)
+      on : (κ : Conf) → Runs∗ G C (at a s) κ → ((s′ : State) → Runs∗ G C (at b s′) (settle G b s′)) → Runs∗ G C (at (app a b) s) (firstSettled app b (λ s′. settle G b s′) (isValue (κ .expr)) κ)
       on κ r below = onValue (isValue (κ .expr)) refl
         where
-          onValue : (x : Bool) → isValue (κ .expr) ≡ x → Runs∗ G C (at (app a b) s) (functionSettled b (λ s′. settle G b s′) x κ)
+          onValue : (x : Bool) → isValue (κ .expr) ≡ x → Runs∗ G C (at (app a b) s) (firstSettled app b (λ s′. settle G b s′) x κ)
           onValue false e = context-runs G C (applied [] b) r
           onValue true e = then-runs G C (context-runs G C (applied [] b) r) (context-runs G C (argument (κ .expr) (true-T (isValue (κ .expr)) e) []) (below (κ .state)))
   settle-runs (callEvent f a r) s = then-runs G C (more (none refl) Precondition) (settle-runs r (noteCall f a s))
   settle-runs (emit f a r) s = then-runs G C (more (none refl) (emit-runs f a r s)) (settle-runs r (emitCall G f a s))
+  settle-runs (sum a b) s = on (settle G a s) (settle-runs a s) (λ s′. settle-runs b s′)
+    where
+      on : (κ : Conf) → Runs∗ G C (at a s) κ → ((s′ : State) → Runs∗ G C (at b s′) (settle G b s′)) → Runs∗ G C (at (sum a b) s) (firstSettled sum b (λ s′. settle G b s′) (isValue (κ .expr)) κ)
+      on κ r below = onValue (isValue (κ .expr)) refl
+        where
+          onValue : (x : Bool) → isValue (κ .expr) ≡ x → Runs∗ G C (at (sum a b) s) (firstSettled sum b (λ s′. settle G b s′) x κ)
+          onValue false e = context-runs G C (augend [] b) r
+          onValue true e = then-runs G C (context-runs G C (augend [] b) r) (context-runs G C (addend (κ .expr) (true-T (isValue (κ .expr)) e) []) (below (κ .state)))
+  settle-runs (branch c a b) s = context-runs G C (condition [] a b) (settle-runs c s)
 
 -- No command is due in the term.
 abbrev Settled : Term → Type 0
@@ -89,6 +98,8 @@ Settled (lam l b) = Unit {0}
 Settled (app a b) = Settled a × (T (isValue a) → Settled b)
 Settled (callEvent f a r) = ⊥
 Settled (emit f a r) = ⊥
+Settled (sum a b) = Settled a × (T (isValue a) → Settled b)
+Settled (branch c a b) = Settled c
 
 settle-settled : (G : Guideline) (e : Term) (s : State) → Settled (settle G e s .expr)
 unfolding settle
@@ -98,20 +109,32 @@ settle-settled G (con n) s = tt
 settle-settled G (lam l b) s = tt
 settle-settled G (app a b) s = on (settle G a s) (settle-settled G a s) (λ s′. settle-settled G b s′)
   where
-    on : (κ : Conf) → Settled (κ .expr) → ((s′ : State) → Settled (settle G b s′ .expr)) → Settled (functionSettled b (λ s′. settle G b s′) (isValue (κ .expr)) κ .expr)
+    on : (κ : Conf) → Settled (κ .expr) → ((s′ : State) → Settled (settle G b s′ .expr)) → Settled (firstSettled app b (λ s′. settle G b s′) (isValue (κ .expr)) κ .expr)
     on κ h below = onValue (isValue (κ .expr)) refl
       where
-        onValue : (x : Bool) → isValue (κ .expr) ≡ x → Settled (functionSettled b (λ s′. settle G b s′) x κ .expr)
+        onValue : (x : Bool) → isValue (κ .expr) ≡ x → Settled (firstSettled app b (λ s′. settle G b s′) x κ .expr)
         onValue false e = (h, λ t. absurd (false-T (isValue (κ .expr)) e t))
         onValue true e = (h, λ t. below (κ .state))
 settle-settled G (callEvent f a r) s = settle-settled G r (noteCall f a s)
 settle-settled G (emit f a r) s = settle-settled G r (emitCall G f a s)
+settle-settled G (sum a b) s = on (settle G a s) (settle-settled G a s) (λ s′. settle-settled G b s′)
+  where
+    on : (κ : Conf) → Settled (κ .expr) → ((s′ : State) → Settled (settle G b s′ .expr)) → Settled (firstSettled sum b (λ s′. settle G b s′) (isValue (κ .expr)) κ .expr)
+    on κ h below = onValue (isValue (κ .expr)) refl
+      where
+        onValue : (x : Bool) → isValue (κ .expr) ≡ x → Settled (firstSettled sum b (λ s′. settle G b s′) x κ .expr)
+        onValue false e = (h, λ t. absurd (false-T (isValue (κ .expr)) e t))
+        onValue true e = (h, λ t. below (κ .state))
+settle-settled G (branch c a b) s = settle-settled G c s
 
 inner-settled : (E : Context) (e : Term) → Settled (plug E e) → Settled e
 unfolding plug
 inner-settled [] e h = h
 inner-settled (applied E b) e h = inner-settled E e (h .0)
 inner-settled (argument v p E) e h = inner-settled E e (h .1 p)
+inner-settled (augend E b) e h = inner-settled E e (h .0)
+inner-settled (addend v p E) e h = inner-settled E e (h .1 p)
+inner-settled (condition E a b) e h = inner-settled E e h
 
 -- … until none is due.
 pub settled : (G : Guideline) (e : Term) (s : State) (E : Context) (f : ℕ) (a r : Term) → (settle G e s .expr ≡ plug E (callEvent f a r) → ⊥) × (settle G e s .expr ≡ plug E (emit f a r) → ⊥)
@@ -126,6 +149,9 @@ module _ (C : Codebase) where
   app-closed : {a b : Term} → ClosedTerm C a → ClosedTerm C b → ClosedTerm C (app a b)
   app-closed p q = record { scoped = (p .scoped, q .scoped); defined = (p .defined, q .defined) }
 
+  sum-closed : {a b : Term} → ClosedTerm C a → ClosedTerm C b → ClosedTerm C (sum a b)
+  sum-closed p q = record { scoped = (p .scoped, q .scoped); defined = (p .defined, q .defined) }
+
 -- Doing commands keeps an expression closed.
 settle-closed : (G : Guideline) (C : Codebase) (e : Term) (s : State) → ClosedTerm C e → ClosedTerm C (settle G e s .expr)
 unfolding settle
@@ -137,14 +163,27 @@ settle-closed G C (app a b) s h =
     on (settle G a s) (settle-closed G C a s record { scoped = h .scoped .0; defined = h .defined .0 })
     (λ s′. settle-closed G C b s′ record { scoped = h .scoped .1; defined = h .defined .1 })
   where
-    on : (κ : Conf) → ClosedTerm C (κ .expr) → ((s′ : State) → ClosedTerm C (settle G b s′ .expr)) → ClosedTerm C (functionSettled b (λ s′. settle G b s′) (isValue (κ .expr)) κ .expr)
+    on : (κ : Conf) → ClosedTerm C (κ .expr) → ((s′ : State) → ClosedTerm C (settle G b s′ .expr)) → ClosedTerm C (firstSettled app b (λ s′. settle G b s′) (isValue (κ .expr)) κ .expr)
     on κ k below = onValue (isValue (κ .expr))
       where
-        onValue : (x : Bool) → ClosedTerm C (functionSettled b (λ s′. settle G b s′) x κ .expr)
+        onValue : (x : Bool) → ClosedTerm C (firstSettled app b (λ s′. settle G b s′) x κ .expr)
         onValue false = app-closed C k record { scoped = h .scoped .1; defined = h .defined .1 }
         onValue true = app-closed C k (below (κ .state))
 settle-closed G C (callEvent f a r) s h = settle-closed G C r (noteCall f a s) record { scoped = h .scoped .1; defined = h .defined .1 }
 settle-closed G C (emit f a r) s h = settle-closed G C r (emitCall G f a s) record { scoped = h .scoped .1; defined = h .defined .1 }
+settle-closed G C (sum a b) s h =
+    on (settle G a s) (settle-closed G C a s record { scoped = h .scoped .0; defined = h .defined .0 })
+    (λ s′. settle-closed G C b s′ record { scoped = h .scoped .1; defined = h .defined .1 })
+  where
+    on : (κ : Conf) → ClosedTerm C (κ .expr) → ((s′ : State) → ClosedTerm C (settle G b s′ .expr)) → ClosedTerm C (firstSettled sum b (λ s′. settle G b s′) (isValue (κ .expr)) κ .expr)
+    on κ k below = onValue (isValue (κ .expr))
+      where
+        onValue : (x : Bool) → ClosedTerm C (firstSettled sum b (λ s′. settle G b s′) x κ .expr)
+        onValue false = sum-closed C k record { scoped = h .scoped .1; defined = h .defined .1 }
+        onValue true = sum-closed C k (below (κ .state))
+settle-closed G C (branch c a b) s h =
+    let k = settle-closed G C c s record { scoped = h .scoped .0; defined = h .defined .0 } in
+    record { scoped = (k .scoped, h .scoped .1, h .scoped .2); defined = (k .defined, h .defined .1, h .defined .2) }
 
 module _ (G : Guideline) (safe : Safe G) (C : Codebase) (closed : ClosedCode C) where
   -- What a tick leads to is reached by the rules, and closed.
@@ -199,6 +238,8 @@ Changes G (fun f) s s′ = ⊥
 Changes G (con n) s s′ = ⊥
 Changes G (lam l b) s s′ = ⊥
 Changes G (app a b) s s′ = s′ ≡ tick s
+Changes G (sum a b) s s′ = s′ ≡ tick s
+Changes G (branch c a b) s s′ = s′ ≡ tick s
 Changes G (callEvent f v r) s s′ = s′ ≡ noteCall f v s
 Changes G (emit f v r) s s′ = (Entails G (s .history) (triple f v s) × (s′ ≡ addEntry (triple f v s) s)) ⊎ ((Entails G (s .history) (triple f v s) → ⊥) × (s′ ≡ s))
 
@@ -209,15 +250,29 @@ changes-unique G (fun f) s s′ s″ c c′ = absurd c
 changes-unique G (con n) s s′ s″ c c′ = absurd c
 changes-unique G (lam l b) s s′ s″ c c′ = absurd c
 changes-unique G (app a b) s s′ s″ c c′ = c ∙ sym c′
+changes-unique G (sum a b) s s′ s″ c c′ = c ∙ sym c′
+changes-unique G (branch d a b) s s′ s″ c c′ = c ∙ sym c′
 changes-unique G (callEvent f v r) s s′ s″ c c′ = c ∙ sym c′
 changes-unique G (emit f v r) s s′ s″ (inl (h, c)) (inl (h′, c′)) = c ∙ sym c′
 changes-unique G (emit f v r) s s′ s″ (inl (h, c)) (inr (h′, c′)) = absurd (h′ h)
 changes-unique G (emit f v r) s s′ s″ (inr (h, c)) (inl (h′, c′)) = absurd (h h′)
 changes-unique G (emit f v r) s s′ s″ (inr (h, c)) (inr (h′, c′)) = c ∙ sym c′
 
+-- What a step of Λcall begins on changes the time alone.
+computes-changes : (G : Guideline) (m : Term) {s s′ : State} → Computes m → s′ ≡ tick s → Changes G m s s′
+computes-changes G (var i) p h = absurd p
+computes-changes G (fun f) p h = absurd p
+computes-changes G (con n) p h = absurd p
+computes-changes G (lam l b) p h = absurd p
+computes-changes G (app a b) p h = h
+computes-changes G (callEvent f v r) p h = absurd p
+computes-changes G (emit f v r) p h = absurd p
+computes-changes G (sum a b) p h = h
+computes-changes G (branch c a b) p h = h
+
 -- A step of Λcall costs one unit of time and keeps history and log.
 call-changes : (G : Guideline) {C : Codebase} {e e′ : Term} {ev : Event} {s s′ : State} (r : Reduces C e (s .time) ev e′ (s′ .time)) → s′ .history ≡ s .history → s′ .log ≡ s .log → Changes G (apart r .hole) s s′
-call-changes G r h k = let (a, v, q) = apart-applied r in let t = reduces-time r in rw q (λ i. record { history = h i; time = t i; log = k i })
+call-changes G r h k = let t = reduces-time r in computes-changes G (apart r .hole) (apart-computes r) (λ i. record { history = h i; time = t i; log = k i })
 
 -- A step of Λlog taken apart, with what it does to the state.
 pub log-apart : {G : Guideline} {C : Codebase} {κ κ′ : Conf} → Runs G C κ κ′ → (ev : Event) × (d : Apart C (κ .expr) ev (κ′ .expr)) × Changes G (d .hole) (κ .state) (κ′ .state)

@@ -6,7 +6,7 @@ use native.Mathlib.Omega.{arith}
 use Prim.Native.Nat.{ℕ, suc, pred, _≤_, _<_}
 use lib.Dec.{eqb, ltb, lt→ltb}
 use Rattle.calculus.specs.Term.{Term, Codebase, Scoped, Defined}
-use Rattle.calculus.specs.Term.Term.{var, fun, con, lam, app, callEvent, emit}
+use Rattle.calculus.specs.Term.Term.{var, fun, con, lam, app, callEvent, emit, sum, branch}
 use Rattle.calculus.specs.Substitution.{shift, substitute, put}
 use Rattle.calculus.proofs.Lists.{T-true, false-T, eqb-same}
 
@@ -31,6 +31,8 @@ scoped-more c d (lam l b) h p = scoped-more (suc c) (suc d) b (omega arith) p
 scoped-more c d (app a b) h p = (scoped-more c d a h (p .0), scoped-more c d b h (p .1))
 scoped-more c d (callEvent f a r) h p = (scoped-more c d a h (p .0), scoped-more c d r h (p .1))
 scoped-more c d (emit f a r) h p = (scoped-more c d a h (p .0), scoped-more c d r h (p .1))
+scoped-more c d (sum a b) h p = (scoped-more c d a h (p .0), scoped-more c d b h (p .1))
+scoped-more c d (branch e a b) h p = (scoped-more c d e h (p .0), scoped-more c d a h (p .1), scoped-more c d b h (p .2))
 
 -- A closed term is closed under any number of abstractions.
 pub scoped-under : (d : ℕ) (e : Term) → Scoped 0 e → Scoped d e
@@ -46,6 +48,8 @@ shift-closed c (lam l b) p = ap (lam l) (shift-closed (suc c) b p)
 shift-closed c (app a b) p = ap₂ app (shift-closed c a (p .0)) (shift-closed c b (p .1))
 shift-closed c (callEvent f a r) p = ap₂ (callEvent f) (shift-closed c a (p .0)) (shift-closed c r (p .1))
 shift-closed c (emit f a r) p = ap₂ (emit f) (shift-closed c a (p .0)) (shift-closed c r (p .1))
+shift-closed c (sum a b) p = ap₂ sum (shift-closed c a (p .0)) (shift-closed c b (p .1))
+shift-closed c (branch e a b) p = rw (shift-closed c e (p .0), shift-closed c a (p .1), shift-closed c b (p .2))
 
 -- ---- substitution
 
@@ -63,6 +67,8 @@ closed-substitute d v (lam l b) p q = rw (shift-closed 0 v p) (ap (lam l) (close
 closed-substitute d v (app a b) p q = ap₂ app (closed-substitute d v a p (q .0)) (closed-substitute d v b p (q .1))
 closed-substitute d v (callEvent f a r) p q = ap₂ (callEvent f) (closed-substitute d v a p (q .0)) (closed-substitute d v r p (q .1))
 closed-substitute d v (emit f a r) p q = ap₂ (emit f) (closed-substitute d v a p (q .0)) (closed-substitute d v r p (q .1))
+closed-substitute d v (sum a b) p q = ap₂ sum (closed-substitute d v a p (q .0)) (closed-substitute d v b p (q .1))
+closed-substitute d v (branch c a b) p q = rw (closed-substitute d v c p (q .0), closed-substitute d v a p (q .1), closed-substitute d v b p (q .2))
 
 -- Putting a closed value for the outermost variable leaves one abstraction less around the term.
 pub put-scoped : (d : ℕ) (v e : Term) → Scoped 0 v → Scoped (suc d) e → Scoped d (put d v e)
@@ -78,6 +84,8 @@ put-scoped d v (lam l b) p q = put-scoped (suc d) v b p q
 put-scoped d v (app a b) p q = (put-scoped d v a p (q .0), put-scoped d v b p (q .1))
 put-scoped d v (callEvent f a r) p q = (put-scoped d v a p (q .0), put-scoped d v r p (q .1))
 put-scoped d v (emit f a r) p q = (put-scoped d v a p (q .0), put-scoped d v r p (q .1))
+put-scoped d v (sum a b) p q = (put-scoped d v a p (q .0), put-scoped d v b p (q .1))
+put-scoped d v (branch c a b) p q = (put-scoped d v c p (q .0), put-scoped d v a p (q .1), put-scoped d v b p (q .2))
 
 -- It adds no name that is not defined.
 pub put-defined : (C : Codebase) (d : ℕ) (v e : Term) → Defined C v → Defined C e → Defined C (put d v e)
@@ -93,3 +101,5 @@ put-defined C d v (lam l b) p q = put-defined C (suc d) v b p q
 put-defined C d v (app a b) p q = (put-defined C d v a p (q .0), put-defined C d v b p (q .1))
 put-defined C d v (callEvent f a r) p q = (put-defined C d v a p (q .0), put-defined C d v r p (q .1))
 put-defined C d v (emit f a r) p q = (put-defined C d v a p (q .0), put-defined C d v r p (q .1))
+put-defined C d v (sum a b) p q = (put-defined C d v a p (q .0), put-defined C d v b p (q .1))
+put-defined C d v (branch c a b) p q = (put-defined C d v c p (q .0), put-defined C d v a p (q .1), put-defined C d v b p (q .2))

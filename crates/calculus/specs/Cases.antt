@@ -1,9 +1,9 @@
--- The ten rehearsed cases of document 01, on trees. Assumes nothing.
+-- The ten rehearsed cases of document 01, and cases of sums and branches, on trees. Assumes nothing.
 use mathlib.Core.List.{List, [], _∷_}
 use mathlib.Core.Path.{_≡_}
 use Prim.Native.Nat.{ℕ}
 use Rattle.calculus.specs.Term.{Term, View, Program, viewOf}
-use Rattle.calculus.specs.Term.Term.{var, fun, con, lam, app}
+use Rattle.calculus.specs.Term.Term.{var, fun, con, lam, app, sum, branch}
 use Rattle.calculus.specs.Guideline.{Guideline, Atom, Condition}
 use Rattle.calculus.specs.Guideline.Condition.{before, related}
 use Rattle.calculus.specs.Least.{Least}
@@ -84,3 +84,29 @@ pub record TenCases : Type 0 where
   pub h : Least closure 1 (constant 1) (constant 3) × (Least closure 1 (constant 3) (constant 1) → ⊥)
   pub i : rehearsed knownOnly (show (inTurn 1 7 1 1)) 1000 ≡ shows value 3 (line 2 1 3 1 ∷ [])
   pub j : rehearsed (logs (0 ∷ 0 ∷ []) (before 1 2 ∷ [])) (show (inTurn 0 3 1 7)) 1000 ≡ shows value 3 []
+
+-- ---- sums and branches (document 02, Item 1), with every fire logged
+
+abbrev pub fires : Term → ℕ → Shown
+fires e n = rehearsed (logs [] []) (show e) n
+
+abbrev pub fire : ℕ → Term
+fire n = app (fun 1) (con n)
+
+pub record SumCases : Type 0 where
+  -- A cue thirty frames after frame 90: the sum is a step of its own.
+  pub spaced : fires (app (fun 1) (sum (con 90) (con 30))) 1000 ≡ shows value 2 (line 1 1 3 120 ∷ [])
+  -- The greatest sum; and one more, which is stuck though the budget is spent too.
+  pub greatest : fires (app (fun 1) (sum (con 4294967290) (con 5))) 1000 ≡ shows value 2 (line 1 1 3 4294967295 ∷ [])
+  pub above : fires (sum (con 4294967290) (con 6)) 0 ≡ shows stuck 0 []
+  -- "with both worked out, it is stuck on any other value": the right is worked out whatever the left is.
+  pub both : fires (sum (lam 0 (var 0)) (fire 7)) 1000 ≡ shows stuck 1 (line 0 1 3 7 ∷ [])
+  -- "becomes the second on constant 0, the third on another constant": the other term is never worked out.
+  pub second : fires (branch (con 0) (fire 2) (fire 3)) 1000 ≡ shows value 2 (line 1 1 3 2 ∷ [])
+  pub third : fires (branch (con 1) (fire 2) (fire 3)) 1000 ≡ shows value 2 (line 1 1 3 3 ∷ [])
+  pub third-too : fires (branch (con 4294967295) (fire 2) (fire 3)) 1000 ≡ shows value 2 (line 1 1 3 3 ∷ [])
+  -- "else it is stuck"
+  pub on-name : fires (branch (fun 1) (fire 2) (fire 3)) 1000 ≡ shows stuck 0 []
+  pub on-abstraction : fires (branch (lam 0 (var 0)) (fire 2) (fire 3)) 1000 ≡ shows stuck 0 []
+  -- A sum's result in function position.
+  pub applied : fires (app (sum (con 1) (con 2)) (con 4)) 1000 ≡ shows stuck 1 []

@@ -1,12 +1,12 @@
--- Terms of Λcall and Λlog (source document 000, 4.1 and 4.3), with the house's constants and labels. Assumes nothing.
+-- Terms of Λcall and Λlog (source document 000, 4.1 and 4.3), with the house's constants, labels, sums and branches. Assumes nothing.
 use mathlib.Core.Bool.{Bool, true, false}
 use mathlib.Core.List.{List, [], _∷_, List·Memᴰ}
 use mathlib.Core.Option.{Option, none, some, IsSome}
 use mathlib.Core.Path.{_≡_}
 use Prim.Native.Nat.{ℕ, zero, suc, _+_, _<_}
 
--- A constructor for each kind of record that begins a term, 1 to 7. A variable counts the abstractions outward from the nearest, 0.
--- Constants and labels are the house's: Λcall has none.
+-- A constructor for each kind of record that begins a term, 1 to 7, 9 and 10. A variable counts the abstractions outward from the nearest, 0.
+-- Constants, labels, sums and branches are the house's: Λcall has none.
 pub data Term : Type 0 where
   var : ℕ → Term
   fun : ℕ → Term
@@ -15,6 +15,8 @@ pub data Term : Type 0 where
   app : Term → Term → Term
   callEvent : ℕ → Term → Term → Term
   emit : ℕ → Term → Term → Term
+  sum : Term → Term → Term
+  branch : Term → Term → Term → Term
 
 -- v ::= x | f | λx. e (4.1), and constants: "A term is an application or a value".
 unfoldable pub isValue : Term → Bool
@@ -25,6 +27,8 @@ isValue (lam l b) = true
 isValue (app a b) = false
 isValue (callEvent f a r) = false
 isValue (emit f a r) = false
+isValue (sum a b) = false
+isValue (branch c a b) = false
 
 -- A kind and a number.
 pub record View : Type 0 where
@@ -43,6 +47,8 @@ view (lam l b) = viewOf 4 l
 view (app a b) = viewOf 5 0
 view (callEvent f a r) = viewOf 6 f
 view (emit f a r) = viewOf 7 f
+view (sum a b) = viewOf 9 0
+view (branch c a b) = viewOf 10 0
 
 -- The count of a term's records.
 unfoldable pub records : Term → ℕ
@@ -53,6 +59,8 @@ records (lam l b) = suc (records b)
 records (app a b) = suc (records a + records b)
 records (callEvent f a r) = suc (records a + records r)
 records (emit f a r) = suc (records a + records r)
+records (sum a b) = suc (records a + records b)
+records (branch c a b) = suc (records c + (records a + records b))
 
 -- "large counts no records of kind 6 or 7 and none of their arguments": the count of a term's other records.
 unfoldable pub size : Term → ℕ
@@ -63,6 +71,8 @@ size (lam l b) = suc (size b)
 size (app a b) = suc (size a + size b)
 size (callEvent f a r) = size r
 size (emit f a r) = size r
+size (sum a b) = suc (size a + size b)
+size (branch c a b) = suc (size c + (size a + size b))
 
 -- "A variable must be below the count of abstractions around it": d abstractions stand around the term.
 abbrev pub Scoped : ℕ → Term → Type 0
@@ -73,6 +83,8 @@ Scoped d (lam l b) = Scoped (suc d) b
 Scoped d (app a b) = Scoped d a × Scoped d b
 Scoped d (callEvent f a r) = Scoped d a × Scoped d r
 Scoped d (emit f a r) = Scoped d a × Scoped d r
+Scoped d (sum a b) = Scoped d a × Scoped d b
+Scoped d (branch c a b) = Scoped d c × Scoped d a × Scoped d b
 
 -- A term of Λcall: no command stands in it.
 abbrev pub Bare : Term → Type 0
@@ -83,6 +95,8 @@ Bare (lam l b) = Bare b
 Bare (app a b) = Bare a × Bare b
 Bare (callEvent f a r) = ⊥
 Bare (emit f a r) = ⊥
+Bare (sum a b) = Bare a × Bare b
+Bare (branch c a b) = Bare c × Bare a × Bare b
 
 -- The codebase maps function names to function definitions (4.1): to the bodies, whose parameter is variable 0.
 abbrev pub Codebase : Type 0
@@ -97,6 +111,8 @@ Defined C (lam l b) = Defined C b
 Defined C (app a b) = Defined C a × Defined C b
 Defined C (callEvent f a r) = Defined C a × Defined C r
 Defined C (emit f a r) = Defined C a × Defined C r
+Defined C (sum a b) = Defined C a × Defined C b
+Defined C (branch c a b) = Defined C c × Defined C a × Defined C b
 
 -- A program (e, C) of a script: the bodies of the definitions, numbered 0, 1, 2 in order, and the main term.
 pub record Program : Type 0 where

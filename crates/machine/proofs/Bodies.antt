@@ -10,7 +10,7 @@ use lib.ListN.{length, drop, set, getD}
 use lib.Seq.{getD-set-same, getD-set-other}
 use borrow.Author.Tests.{ne-eqb}
 use Rattle.calculus.specs.Term.{Term, view, records, Bare, Placed, codebase, bodies as functions}
-use Rattle.calculus.specs.Term.Term.{var, fun, con, lam, app, callEvent, emit}
+use Rattle.calculus.specs.Term.Term.{var, fun, con, lam, app, callEvent, emit, sum, branch}
 use Rattle.calculus.specs.Term.Placed.{plain, noting, logging}
 use Rattle.calculus.specs.Strip.{stripEmit, strip}
 use Rattle.script.specs.declared.Purpose.the-variants.{RewrittenRun}
@@ -33,19 +33,22 @@ use Rattle.machine.proofs.Program.{Body, body-below, formed-body, forme
 -- ---- a body in its bytes
 
 -- No term begins with kind 8.
-view-kind : (t : Term) → view t .kind ≤ 7
+view-kind : (t : Term) → view t .kind ≡ 8 → ⊥
 unfolding view
-view-kind (var i) = omega arith
-view-kind (fun f) = omega arith
-view-kind (con n) = omega arith
-view-kind (lam l b) = omega arith
-view-kind (app a b) = omega arith
-view-kind (callEvent f a r) = omega arith
-view-kind (emit f a r) = omega arith
+view-kind (var i) e = omega arith
+view-kind (fun f) e = omega arith
+view-kind (con n) e = omega arith
+view-kind (lam l b) e = omega arith
+view-kind (app a b) e = omega arith
+view-kind (callEvent f a r) e = omega arith
+view-kind (emit f a r) e = omega arith
+view-kind (sum a b) e = omega arith
+view-kind (branch c a b) e = omega arith
 
 -- Of a term without commands: its kind, no mark, nothing to strip.
 pub record Plain (b : Term) : Type 0 where
-  pub kind : view b .kind ≤ 5
+  pub no-note : view b .kind ≡ 6 → ⊥
+  pub no-log : view b .kind ≡ 7 → ⊥
   pub mark : markOf b ≡ 0
   pub same : strip b ≡ b
   pub rest-mark : emitMark b ≡ 1
@@ -53,13 +56,15 @@ pub record Plain (b : Term) : Type 0 where
 
 bare-plain : (b : Term) → Bare b → Plain b
 unfolding view
-bare-plain (var i) p = record { kind = omega arith; mark = refl; same = refl; rest-mark = refl; rest-same = refl }
-bare-plain (fun f) p = record { kind = omega arith; mark = refl; same = refl; rest-mark = refl; rest-same = refl }
-bare-plain (con n) p = record { kind = omega arith; mark = refl; same = refl; rest-mark = refl; rest-same = refl }
-bare-plain (lam l b) p = record { kind = omega arith; mark = refl; same = refl; rest-mark = refl; rest-same = refl }
-bare-plain (app a b) p = record { kind = omega arith; mark = refl; same = refl; rest-mark = refl; rest-same = refl }
+bare-plain (var i) p = record { no-note = λ e. omega arith; no-log = λ e. omega arith; mark = refl; same = refl; rest-mark = refl; rest-same = refl }
+bare-plain (fun f) p = record { no-note = λ e. omega arith; no-log = λ e. omega arith; mark = refl; same = refl; rest-mark = refl; rest-same = refl }
+bare-plain (con n) p = record { no-note = λ e. omega arith; no-log = λ e. omega arith; mark = refl; same = refl; rest-mark = refl; rest-same = refl }
+bare-plain (lam l b) p = record { no-note = λ e. omega arith; no-log = λ e. omega arith; mark = refl; same = refl; rest-mark = refl; rest-same = refl }
+bare-plain (app a b) p = record { no-note = λ e. omega arith; no-log = λ e. omega arith; mark = refl; same = refl; rest-mark = refl; rest-same = refl }
 bare-plain (callEvent f a r) p = absurd p
 bare-plain (emit f a r) p = absurd p
+bare-plain (sum a b) p = record { no-note = λ e. omega arith; no-log = λ e. omega arith; mark = refl; same = refl; rest-mark = refl; rest-same = refl }
+bare-plain (branch c a b) p = record { no-note = λ e. omega arith; no-log = λ e. omega arith; mark = refl; same = refl; rest-mark = refl; rest-same = refl }
 
 -- There are at most two commands.
 emit-most : (b : Term) → emitMark b ≤ 2
@@ -70,6 +75,8 @@ emit-most (lam l b) = omega arith
 emit-most (app a b) = omega arith
 emit-most (callEvent f a r) = omega arith
 emit-most (emit f a r) = omega arith
+emit-most (sum a b) = omega arith
+emit-most (branch c a b) = omega arith
 
 mark-most : (b : Term) → markOf b ≤ 2
 mark-most (var i) = omega arith
@@ -79,6 +86,8 @@ mark-most (lam l b) = omega arith
 mark-most (app a b) = omega arith
 mark-most (callEvent f a r) = emit-most r
 mark-most (emit f a r) = omega arith
+mark-most (sum a b) = omega arith
+mark-most (branch c a b) = omega arith
 
 -- The commands' count, by the kinds.
 module _ (s : List ℕ) (i : ℕ) where
@@ -115,10 +124,10 @@ module _ (s : List ℕ) (i f : ℕ) (rest : List ℕ) where
       let k : kindAt s i ≡ view b .kind = first-kind s i b (encode-stands s i b rest g e) in
       let j : i + 2 * markOf b ≡ i = omega (arith, q .mark) in
       record {
-        marked = rw (ne-eqb (kindAt s i) 6 (λ z. omega (arith, q .kind)), q .mark);
+        marked = rw (ne-eqb (kindAt s i) 6 (λ z. q .no-note (sym k ∙ z)), q .mark);
         later = rest;
         lies = rw (j, q .same) e;
-        second = λ z. absurd (omega (arith, q .kind));
+        second = λ z. absurd (q .no-note (sym k ∙ z));
       }
 
   noting-shown : (b : Term) → Bare b → Fits b → drop (8 * i) s ≡ encode (callEvent f (var 0) b) ++ rest → Shown s i (callEvent f (var 0) b)
@@ -133,7 +142,7 @@ module _ (s : List ℕ) (i f : ℕ) (rest : List ℕ) where
       let k₀ : kindAt s i ≡ 6 = record-kind s i 6 f (record8 1 0 [] ++ (encode b ++ rest)) e₁ in
       let j : i + 2 * emitMark b ≡ i + 2 = omega (arith, q .rest-mark) in
       record {
-        marked = rw (k₀, ne-eqb (kindAt s (i + 2)) 7 (λ z. omega (arith, q .kind)), q .rest-mark);
+        marked = rw (k₀, ne-eqb (kindAt s (i + 2)) 7 (λ z. q .no-log (sym k ∙ z)), q .rest-mark);
         later = rest;
         lies = rw (j, q .rest-same) d;
         second = λ z. omega arith;
@@ -205,11 +214,11 @@ module _ {s : List ℕ} (h : Formed RewrittenRun s) where
 
   module _ {bodies marks : List ℕ} {at f : ℕ} (p : Passing s bodies marks at f) where
     -- A term begins at the record, or a definition.
-    main-kind : drop (8 * at) s ≡ encode (programIn s .main) → (kindAt s at ≤ 7) × (at < count s)
+    main-kind : drop (8 * at) s ≡ encode (programIn s .main) → (kindAt s at ≡ 8 → ⊥) × (at < count s)
     main-kind e =
         let m : Term = programIn s .main in
         let w : Stands s at m = encode-stands s at m [] (formed-main h .fits) (e ∙ sym (append-nil (encode m))) in
-        (omega (arith, first-kind s at m w, view-kind m), first-inside s at m w)
+        (λ z. view-kind m (sym (first-kind s at m w) ∙ z), first-inside s at m w)
 
     pub passing-in : 8 * at < length s
     passing-in = on (p .rest) (p .bytes)
@@ -247,7 +256,7 @@ module _ {s : List ℕ} (h : Formed RewrittenRun s) where
       here = on (p .rest) (p .bytes)
         where
           on : (rest : List Term) → drop (8 * at) s ≡ encodeFrom f rest (programIn s .main) → Here rest
-          on [] e = absurd (let m = main-kind e in omega arith)
+          on [] e = absurd (main-kind e .0 k)
           on (b ∷ bs) e = record { body = b; later = bs; is = refl }
 
       after : drop (8 * (at + 1)) s ≡ encode (here .body) ++ encodeFrom (suc f) (here .later) (programIn s .main)

@@ -1,24 +1,26 @@
--- Firing a redex: the body that it goes to, and what its result leaves in the buffer. Assumes nothing.
+-- Firing a redex: the body that an application goes to, and what its result leaves in the buffer; the same of a sum and a branch. Assumes
+-- nothing.
 use mathlib.Core.Bool.{true, false}
 use mathlib.Core.List.{List}
-use mathlib.Core.Logic.{_⊎_, inl, inr}
+use mathlib.Core.Logic.{_⊎_, inl, inr, ⊎-elim}
 use mathlib.Core.Option.{Option, none, some, IsSome}
 use mathlib.Core.Path.{_≡_, refl, sym, ap, ap₂, subst, _∙_}
 use Prim.Native.Nat.{ℕ, _+_, _-_, _*_, _/_, _<_, _≤_}
+use native.Mathlib.Decide.{ℕ-discrete}
 use native.Mathlib.Omega.{arith}
 use lib.ListN.{length, take, drop, getD}
 use borrow.Author.Tests.{eq-eqb, ne-eqb, le-leb, lt-leb}
 use Rattle.words.specs.Bytes.{part}
 use Rattle.words.specs.Put.{put, part-put}
-use Rattle.calculus.specs.Term.{Term, Codebase, records, size, Bare, Defined, codebase}
-use Rattle.calculus.specs.Term.Term.{fun, lam, app}
+use Rattle.calculus.specs.Term.{Term, Codebase, view, viewOf, records, size, Bare, Defined, codebase}
+use Rattle.calculus.specs.Term.Term.{fun, con, lam, app}
 use Rattle.calculus.specs.Substitution.{put as putTerm}
 use Rattle.calculus.specs.Step.{Event, Next, step}
 use Rattle.calculus.specs.Step.Event.{quiet, calls}
 use Rattle.calculus.specs.Step.Next.{atValue, atStuck, next}
 use Rattle.calculus.specs.Run.{limit}
 use Rattle.calculus.proofs.Peel.{put-bare}
-use Rattle.terms.specs.Record.{kindAt, recordNumber}
+use Rattle.terms.specs.Record.{count, kindAt, recordNumber}
 use Rattle.terms.specs.Read.{termAt}
 use Rattle.terms.specs.Encode.{encode, Fits}
 use Rattle.terms.proofs.Encode.{encode-length, term-at}
@@ -29,14 +31,16 @@ use Rattle.substitution.proofs.Laws.{copied-encode, put-fits, lies}
 use Rattle.zipper.specs.Frame.{Frame, plug}
 use Rattle.zipper.specs.Zipper.{wholeIn, endAt, ZipOf, Poised}
 use Rattle.calculus.proofs.Size.{bare-size}
-use Rattle.zipper.proofs.Context.{plug-part, plug-keeps}
+use Rattle.zipper.proofs.Context.{bare-shared, fits-shared, defined-shared, plug-part, plug-keeps}
 use Rattle.zipper.proofs.Parts.{first-inside, bounds, focus-bare, focus-fits}
-use Rattle.zipper.proofs.Whole.{poised-whole, poised-own}
-use Rattle.zipper.proofs.Redex.{abstraction-step, name-step, function-there, head-kind, head-name, head-abstraction, facts, argument-part, room-small, room-large, contracted}
+use Rattle.zipper.proofs.Whole.{zip-flat, poised-whole, poised-own}
+use Rattle.zipper.proofs.Redex.{Applied, applied-at, added-at, chosen-at, abstraction-step, name-step, function-there, head-kind, head-name, head-abstraction, argument-kind, argument-number, redex-inside, three-kinds, facts, argument-part, room-small, room-large, contracted}
+use Rattle.zipper.proofs.Sums.{added-step, first-read, second-read, added-inside, added-lands, second-step, third-step, number-read, third-lands, branch-ends, second-lands}
 use Rattle.script.specs.File.{programIn}
 use Rattle.machine.specs.Program.{codeIn}
 use Rattle.machine.specs.Bodies.{BodyAt, Positions}
 use Rattle.machine.specs.Fire.{bodyFor, Source, Ready, FiredIs, FitsIs}
+use Rattle.machine.specs.Choice.{Addends, summed, thirdAt, secondTo, Fork, moved, ChoiceIs}
 use Rattle.machine.specs.declared.Fired.{Fired}
 use Rattle.machine.specs.declared.Fired.the-variants.{Made, Over}
 use Rattle.machine.proofs.Strip.{stripped-from}
@@ -65,7 +69,7 @@ has-body C f h = on (C f) refl h
 
 -- ---- the body that a redex goes to
 
--- What the redex at p goes to: a body at its place, and the step of the whole.
+-- What the application at p goes to: a body at its place, and the step of the whole.
 pub record Reduct (C : Codebase) (e s bodies : List ℕ) (p : ℕ) (K : List Frame) (v T : Term) : Type 0 where
   pub body : Term
   pub is : bodyFor e s bodies p ≡ body
@@ -77,13 +81,13 @@ pub record Reduct (C : Codebase) (e s bodies : List ℕ) (p : ℕ) (K : List Fra
   pub silent : (kindAt e (p + 1) ≡ 2 → ⊥) → event ≡ quiet
   pub source : Source e s bodies p
 
--- A function that is called at a redex has a body, …
-module _ (s : List ℕ) {e fs : List ℕ} {p l r n : ℕ} {T : Term} (h : Poised e fs p l r n T) (d : Defined (codeIn s) T) (k : kindAt e (p + 1) ≡ 2) where
+-- A function that is called there has a body, …
+module _ (s : List ℕ) {e fs : List ℕ} {p l r n : ℕ} {T : Term} (h : Applied e fs p l r n T) (d : Defined (codeIn s) T) (k : kindAt e (p + 1) ≡ 2) where
   -- … without its commands …
   pub called-code : HasBody (codeIn s) (recordNumber e (p + 1))
   called-code =
       let f : ℕ = recordNumber e (p + 1) in
-      let z : Defined (codeIn s) (app (h .function) (h .argument)) = plug-part (Defined (codeIn s)) (λ x y w. w) (h .frames) (app (h .function) (h .argument)) (rw (h .whole) d) in
+      let z : Defined (codeIn s) (app (h .function) (h .argument)) = plug-part (defined-shared (codeIn s)) (h .frames) (app (h .function) (h .argument)) (rw (h .whole) d) in
       let y : Defined (codeIn s) (fun f) = rw (head-name h k) at (z .0) in
       has-body (codeIn s) f y
 
@@ -95,7 +99,7 @@ module _ (s : List ℕ) {e fs : List ℕ} {p l r n : ℕ} {T : Term} (h : Poised
       let w = stripped-from (codebase (programIn s)) (recordNumber e (p + 1)) (g .body) (g .is) in
       record { body = w .body; is = w .has }
 
-module _ {e fs s bodies : List ℕ} {p l r n : ℕ} {T : Term} (h : Poised e fs p l r n T) (d : Defined (codeIn s) T) (b : Positions s bodies) where
+module _ {e fs s bodies : List ℕ} {p l r n : ℕ} {T : Term} (h : Applied e fs p l r n T) (d : Defined (codeIn s) T) (b : Positions s bodies) where
   -- A function name's body lies in the script.
   name-reduct : kindAt e (p + 1) ≡ 2 → Reduct (codeIn s) e s bodies p (h .frames) (h .argument) T
   unfolding bodyFor
@@ -115,9 +119,10 @@ module _ {e fs s bodies : List ℕ} {p l r n : ℕ} {T : Term} (h : Poised e fs 
         silent = λ w. absurd (w k);
         source = record {
           inside = first-inside e (p + 1) (h .function) (function-there h);
+          kinds = inl k;
           named = λ w. b .within f (g .body) (g .is);
           called = λ w. body-lies a;
-          applied = λ w. absurd (w k);
+          applied = λ w. absurd (omega arith);
         };
       }
 
@@ -126,8 +131,8 @@ module _ {e fs s bodies : List ℕ} {p l r n : ℕ} {T : Term} (h : Poised e fs 
   unfolding bodyFor records
   abstraction-reduct k =
       let a = head-abstraction h k in
-      let z : Bare (app (h .function) (h .argument)) = plug-part Bare (λ x y w. w) (h .frames) (app (h .function) (h .argument)) (h .zip .sound .bare) in
-      let y : Fits (app (h .function) (h .argument)) = plug-part Fits (λ x y w. w) (h .frames) (app (h .function) (h .argument)) (h .zip .sound .fits) in
+      let z : Bare (app (h .function) (h .argument)) = plug-part bare-shared (h .frames) (app (h .function) (h .argument)) (h .zip .sound .bare) in
+      let y : Fits (app (h .function) (h .argument)) = plug-part fits-shared (h .frames) (app (h .function) (h .argument)) (h .zip .sound .fits) in
       let bare : Bare (lam (a .label) (a .body)) = rw (a .is) at (z .0) in
       let fits : Fits (lam (a .label) (a .body)) = rw (a .is) at (y .0) in
       let c = facts h (endAt e r) refl in
@@ -143,6 +148,7 @@ module _ {e fs s bodies : List ℕ} {p l r n : ℕ} {T : Term} (h : Poised e fs 
         silent = λ w. refl;
         source = record {
           inside = first-inside e (p + 1) (h .function) (function-there h);
+          kinds = inr k;
           named = λ w. absurd (omega arith);
           called = λ w. absurd (omega arith);
           applied = λ w. lies e (p + 2) (a .body) (drop (8 * l) e) (fits .1) bare small (a .lies);
@@ -165,9 +171,9 @@ module _ (e s bodies : List ℕ) (p : ℕ) where
   body-called k m f at a b c = rw (eq-eqb (kindAt e (p + 1)) 2 k, c, b, a)
 
   -- An abstraction's body.
-  pub body-applied : (kindAt e (p + 1) ≡ 2 → ⊥) → bodyFor e s bodies p ≡ termAt e (p + 2)
+  pub body-applied : kindAt e (p + 1) ≡ 4 → bodyFor e s bodies p ≡ termAt e (p + 2)
   unfolding bodyFor
-  body-applied k = rw (ne-eqb (kindAt e (p + 1)) 2 k)
+  body-applied k = rw k
 
   module _ (h : Source e s bodies p) where
     pub called-in : kindAt e (p + 1) ≡ 2 → (m f : ℕ) → m ≡ recordNumber e (p + 1) → f ≡ m → f < length bodies
@@ -175,6 +181,9 @@ module _ (e s bodies : List ℕ) (p : ℕ) where
 
     pub called-lies : kindAt e (p + 1) ≡ 2 → (m f at : ℕ) → m ≡ recordNumber e (p + 1) → f ≡ m → at ≡ getD bodies f 0 → Lies s at (termAt s at)
     called-lies k m f at a b c = rw (c, b, a) (h .called k)
+
+    pub source-none : (kindAt e (p + 1) ≡ 2 → ⊥) → (kindAt e (p + 1) ≡ 4 → ⊥) → ⊥
+    source-none a b = ⊎-elim a b (h .kinds)
 
 -- ---- the answers
 
@@ -189,10 +198,39 @@ module _ (w o : List ℕ) (most : ℕ) (x : Substituted) (o′ : List ℕ) (g : 
   written-full : x ≡ Full → (most < 0 + length w) × (length o′ ≡ length o)
   written-full d = rw d at g
 
-module _ {e s bodies : List ℕ} {p l r : ℕ} {T : Term} (h : Ready (codeIn s) e p l r T) (b : Positions s bodies) where
+-- A step that was made in the buffer.
+pub record Landed (C : Codebase) (T : Term) (event : Event) (e′ fs : List ℕ) (p r′ n : ℕ) : Type 0 where
+  pub expr : Term
+  pub steps : step C T ≡ next event expr
+  pub zip : ZipOf e′ fs p r′ (n - 1) expr
+
+module _ {C : Codebase} {T : Term} {ev : Event} {e′ fs : List ℕ} {p r′ n : ℕ} (w : Landed C T ev e′ fs p r′ n) where
+  -- No command is in the whole: all its records count.
+  landed-small : size (w .expr) ≤ limit
+  landed-small = let s = zip-flat (w .zip) .sound in omega (arith, bare-size (w .expr) (s .bare), s .small)
+
+  -- It leaves at most 1,024 records.
+  pub landed-fits : FitsIs (step C T) true
+  landed-fits = rw (w .steps) (sym (le-leb (size (w .expr)) limit landed-small))
+
+-- Made whatever entries hold T's frames, it is what firing answers.
+pub landed-fired : {C : Codebase} {T : Term} {e e′ : List ℕ} {p l r r′ : ℕ} → Ready C e p l r T
+    → ((fs : List ℕ) (n : ℕ) → Poised e fs p l r n T → (ev : Event) × Landed C T ev e′ fs p r′ n) → FiredIs T (step C T) p l r (Made r′) e e′
+landed-fired {e′ = e′} {p = p} {r′ = r′} h go =
+    let w = go (h .entries) (h .frames) (h .poised) .1 in
+    rw (w .steps) (
+      landed-small w,
+      λ fs n k. let v = go fs n k .1 in subst (λ (t : Term). ZipOf e′ fs p r′ (n - 1) t) (next-same (sym (v .steps) ∙ w .steps)) (v .zip),
+    )
+
+module _ {e s bodies : List ℕ} {p l r : ℕ} {T : Term} (h : Ready (codeIn s) e p l r T) (five : kindAt e p ≡ 5) (b : Positions s bodies) where
+  -- The application.
+  here : Applied e (h .entries) p l r (h .frames) T
+  here = applied-at (h .poised) five
+
   -- What `reduce` asks.
   pub ready-source : Source e s bodies p
-  ready-source = reduct (h .poised) (h .defined) b .source
+  ready-source = reduct here (h .defined) b .source
 
   module _ (end : ℕ) (at : end ≡ endAt e r) where
     -- The numbers of a step.
@@ -203,14 +241,14 @@ module _ {e s bodies : List ℕ} {p l r : ℕ} {T : Term} (h : Ready (codeIn s) 
       pub wide : length e ≡ 24576
 
     pub numbers : Numbers
-    numbers = let f = facts (h .poised) end at in record { in-all = f .in-all; begins = f .begins; around = f .around; wide = f .wide }
+    numbers = let f = facts here end at in record { in-all = f .in-all; begins = f .begins; around = f .around; wide = f .wide }
 
     -- The records that the limit leaves for the redex's result.
     abbrev room : ℕ
     room = 8 * (1024 - (p + (3072 - end)))
 
     module _ (most : ℕ) (o : List ℕ) (x : Substituted) (o′ : List ℕ) (g : WrittenIs (copied 0 (take (8 * end - 8 * r) (drop (8 * r) e)) (bodyFor e s bodies p)) most o 0 x o′) where
-      module _ {fs : List ℕ} {n : ℕ} (k : Poised e fs p l r n T) where
+      module _ {fs : List ℕ} {n : ℕ} (k : Applied e fs p l r n T) where
         red : Reduct (codeIn s) e s bodies p (k .frames) (k .argument) T
         red = reduct k (h .defined) b
 
@@ -234,7 +272,7 @@ module _ {e s bodies : List ℕ} {p l r : ℕ} {T : Term} (h : Ready (codeIn s) 
         whole-size : size (plug (k .frames) result) ≡ records (plug (k .frames) result)
         whole-size =
             bare-size (plug (k .frames) result)
-            (plug-keeps Bare (λ y z w. w) (λ y z a c. (a, c)) (k .frames) (app (k .function) (k .argument)) result (k .zip .sound .bare) bare)
+            (plug-keeps bare-shared (k .frames) (app (k .function) (k .argument)) result (k .zip .sound .bare) bare)
 
         goes : step (codeIn s) T ≡ next (red .event) (plug (k .frames) result)
         unfolding result
@@ -257,23 +295,20 @@ module _ {e s bodies : List ℕ} {p l r : ℕ} {T : Term} (h : Ready (codeIn s) 
 
       -- The bytes that were written.
       pub fire-room : (q : ℕ) → x ≡ Done q → q ≤ most
-      fire-room q d = written-done (encode (result (h .poised))) o most x o′ (written (h .poised)) q d .1
+      fire-room q d = written-done (encode (result here)) o most x o′ (written here) q d .1
 
       -- Written and copied into place.
       pub fire-made : most ≤ room → (q : ℕ) → x ≡ Done q → most ≤ length o → (e′ : List ℕ) → e′ ≡ put e (8 * end - q) (part o′ 0 q)
           → FiredIs T (step (codeIn s) T) p l r (Made (end - q / 8)) e e′
       fire-made l q d f e′ m =
-          rw (goes (h .poised)) (
-            omega (arith, whole-size (h .poised), small (h .poised) q d l),
-            λ fs n k.
-                let y : plug (k .frames) (result k) ≡ plug (h .poised .frames) (result (h .poised)) = next-same (sym (goes k) ∙ goes (h .poised)) in
-                subst (λ (t : Term). ZipOf e′ fs p (end - q / 8) (n - 1) t) y (zipped k q d l f e′ m),
-          )
+          landed-fired h (λ fs n k.
+          let a = applied-at k five in
+          (red a .event, record { expr = plug (a .frames) (result a); steps = goes a; zip = zipped a q d l f e′ m }))
 
       -- No room for it: the next expression is large.
       pub fire-over : room ≤ most → x ≡ Full → FiredIs T (step (codeIn s) T) p l r Over e e
       fire-over l d =
-          let k = h .poised in
+          let k = here in
           let a = written-full (encode (result k)) o most x o′ (written k) d in
           let c : room < 8 * records (result k) = omega (arith, a .0, encode-length (result k)) in
           rw (goes k) (omega (arith, whole-size k, room-large k end at (result k) c), refl)
@@ -281,15 +316,94 @@ module _ {e s bodies : List ℕ} {p l r : ℕ} {T : Term} (h : Ready (codeIn s) 
       -- Whether there is room for it.
       pub fits-room : most ≤ room → (q : ℕ) → x ≡ Done q → FitsIs (step (codeIn s) T) true
       fits-room l q d =
-          let k = h .poised in
+          let k = here in
           rw (goes k) (sym (le-leb (size (plug (k .frames) (result k))) limit (omega (arith, whole-size k, small k q d l))))
 
       pub fits-not : room ≤ most → x ≡ Full → FitsIs (step (codeIn s) T) false
       fits-not l d =
-          let k = h .poised in
+          let k = here in
           let a = written-full (encode (result k)) o most x o′ (written k) d in
           let c : room < 8 * records (result k) = omega (arith, a .0, encode-length (result k)) in
           rw (goes k) (sym (lt-leb (size (plug (k .frames) (result k))) limit (omega (arith, whole-size k, room-large k end at (result k) c))))
+
+-- ---- a sum and a branch
+
+module _ {e fs : List ℕ} {p l r n : ℕ} {T : Term} (h : Poised e fs p l r n T) where
+  -- What `add` asks, …
+  poised-addends : kindAt e p ≡ 9 → Addends e p r
+  poised-addends k =
+      let a = added-at h k in
+      let i = added-inside a in
+      record { first = i .0; second = i .1; fits = omega (arith, first-read a, second-read a, a .fits) }
+
+  -- … and what it leaves.
+  summed-landed : (C : Codebase) → kindAt e p ≡ 9 → Landed C T quiet (summed e p r) fs p r n
+  unfolding summed
+  summed-landed C k =
+      let a = added-at h k in
+      let q : recordNumber e (p + 1) + recordNumber e r ≡ a .first + a .second = omega (arith, first-read a, second-read a) in
+      record { expr = plug (a .frames) (con (a .first + a .second)); steps = added-step a C; zip = added-lands a _ (rw q) }
+
+  -- What `choose` asks, …
+  poised-fork : kindAt e p ≡ 10 → Fork e r
+  poised-fork k =
+      let b = branch-ends (chosen-at h k) (thirdAt e r) refl (endAt e (thirdAt e r)) refl in
+      record { second = b .begins; third = b .goes-on; inside = omega (arith, b .in-all, b .wide) }
+
+  -- … and what it leaves.
+  second-landed : (C : Codebase) → kindAt e p ≡ 10 → recordNumber e r ≡ 0 → Landed C T quiet (moved e r) fs p (secondTo e r) n
+  unfolding moved
+  second-landed C k z =
+      let a = chosen-at h k in
+      record {
+        expr = plug (a .frames) (a .second);
+        steps = second-step a C (sym (number-read a) ∙ z);
+        zip = second-lands a (thirdAt e r) refl (endAt e (thirdAt e r)) refl (moved e r) refl;
+      }
+
+  third-landed : (C : Codebase) → kindAt e p ≡ 10 → (recordNumber e r ≡ 0 → ⊥) → Landed C T quiet e fs p (thirdAt e r) n
+  third-landed C k z =
+      let a = chosen-at h k in
+      record {
+        expr = plug (a .frames) (a .third);
+        steps = third-step a C (λ y. z (number-read a ∙ y));
+        zip = third-lands a (thirdAt e r) refl;
+      }
+
+module _ {e : List ℕ} {p l r : ℕ} {T : Term} {C : Codebase} (h : Ready C e p l r T) where
+  -- The redex's first record is in the buffer.
+  pub ready-inside : p < count e
+  ready-inside = redex-inside (h .poised)
+
+  pub ready-addends : kindAt e p ≡ 9 → Addends e p r
+  ready-addends = poised-addends (h .poised)
+
+  pub fire-added : kindAt e p ≡ 9 → (e′ : List ℕ) → e′ ≡ summed e p r → FiredIs T (step C T) p l r (Made r) e e′
+  fire-added k e′ m = rw m (landed-fired h (λ fs n q. (quiet, summed-landed q C k)))
+
+  pub ready-fork : kindAt e p ≡ 10 → Fork e r
+  ready-fork = poised-fork (h .poised)
+
+  pub fire-chosen : kindAt e p ≡ 10 → (x : ℕ) (e′ : List ℕ) → ChoiceIs e r x e′ → FiredIs T (step C T) p l r (Made x) e e′
+  fire-chosen k x e′ c = on (ℕ-discrete (recordNumber e r) 0)
+    where
+      on : Dec (recordNumber e r ≡ 0) → FiredIs T (step C T) p l r (Made x) e e′
+      on (yes z) = let w = c .onZero z in rw (w .0, w .1) (landed-fired h (λ fs n q. (quiet, second-landed q C k z)))
+      on (no z) = let w = c .onOther z in rw (w .0, w .1) (landed-fired h (λ fs n q. (quiet, third-landed q C k z)))
+
+  -- No redex has another kind.
+  pub fire-none : (kindAt e p ≡ 5 → ⊥) → (kindAt e p ≡ 9 → ⊥) → (kindAt e p ≡ 10 → ⊥) → ⊥
+  fire-none a b c = ⊎-elim a (⊎-elim b c) (three-kinds (h .poised))
+
+  -- Where no application is, there is room.
+  pub fits-other : (kindAt e p ≡ 5 → ⊥) → FitsIs (step C T) true
+  fits-other a = on (three-kinds (h .poised)) (ℕ-discrete (recordNumber e r) 0)
+    where
+      on : (kindAt e p ≡ 5) ⊎ ((kindAt e p ≡ 9) ⊎ (kindAt e p ≡ 10)) → Dec (recordNumber e r ≡ 0) → FitsIs (step C T) true
+      on (inl k) z = absurd (a k)
+      on (inr (inl k)) z = landed-fits (summed-landed (h .poised) C k)
+      on (inr (inr k)) (yes z) = landed-fits (second-landed (h .poised) C k z)
+      on (inr (inr k)) (no z) = landed-fits (third-landed (h .poised) C k z)
 
 -- ---- what a run makes of an answer
 
@@ -316,9 +430,62 @@ pub record Large (C : Codebase) (T : Term) (e e′ : List ℕ) : Type 0 where
   pub large : limit < size (move .expr)
   pub same : e′ ≡ e
 
--- At a redex there is a step.
-pub poised-moves : {e fs s bodies : List ℕ} {p l r n : ℕ} {T : Term} → Poised e fs p l r n T → Defined (codeIn s) T → Positions s bodies → Moves (codeIn s) T
-poised-moves h d b = let g = reduct h d b in record { event = g .event; expr = _; steps = g .goes }
+-- ---- the step at a redex, and its call
+
+-- The function at record p + 1 is called.
+abbrev pub Calls : List ℕ → ℕ → Type 0
+Calls e p = (kindAt e p ≡ 5) × (kindAt e (p + 1) ≡ 2)
+
+-- A call of that function, its argument at record r.
+pub record Called (e : List ℕ) (p r : ℕ) (event : Event) : Type 0 where
+  pub argument : Term
+  pub is : event ≡ calls (recordNumber e (p + 1)) argument
+  pub seen : view argument ≡ viewOf (kindAt e r) (recordNumber e r)
+
+pub record Stepped (C : Codebase) (e : List ℕ) (p r : ℕ) (T : Term) : Type 0 where
+  pub move : Moves C T
+  pub called : Calls e p → Called e p r (move .event)
+  pub silent : (Calls e p → ⊥) → move .event ≡ quiet
+
+module _ {e fs s bodies : List ℕ} {p l r n : ℕ} {T : Term} (h : Poised e fs p l r n T) (d : Defined (codeIn s) T) (b : Positions s bodies) where
+  -- A sum or a branch calls nothing.
+  quietly : {e′ : List ℕ} {r′ : ℕ} → Landed (codeIn s) T quiet e′ fs p r′ n → (kindAt e p ≡ 5 → ⊥) → Stepped (codeIn s) e p r T
+  quietly w k = record {
+    move = record { event = quiet; expr = w .expr; steps = w .steps };
+    called = λ c. absurd (k (c .0));
+    silent = λ c. refl;
+  }
+
+  of-application : kindAt e p ≡ 5 → Stepped (codeIn s) e p r T
+  of-application k =
+      let a = applied-at h k in
+      let g = reduct a d b in
+      let x = argument-kind a in
+      let y = argument-number a in
+      record {
+        move = record { event = g .event; expr = _; steps = g .goes };
+        called = λ c. record { argument = a .argument; is = g .called (c .1); seen = λ i. viewOf (sym x i) (sym y i) };
+        silent = λ c. g .silent (λ z. c (k, z));
+      }
+
+  of-branch : kindAt e p ≡ 10 → Stepped (codeIn s) e p r T
+  of-branch k = on (ℕ-discrete (recordNumber e r) 0)
+    where
+      on : Dec (recordNumber e r ≡ 0) → Stepped (codeIn s) e p r T
+      on (yes z) = quietly (second-landed h (codeIn s) k z) (λ y. omega arith)
+      on (no z) = quietly (third-landed h (codeIn s) k z) (λ y. omega arith)
+
+  -- At a redex there is a step.
+  pub poised-stepped : Stepped (codeIn s) e p r T
+  poised-stepped = on (three-kinds h)
+    where
+      on : (kindAt e p ≡ 5) ⊎ ((kindAt e p ≡ 9) ⊎ (kindAt e p ≡ 10)) → Stepped (codeIn s) e p r T
+      on (inl k) = of-application k
+      on (inr (inl k)) = quietly (summed-landed h (codeIn s) k) (λ y. omega arith)
+      on (inr (inr k)) = of-branch k
+
+  pub poised-moves : Moves (codeIn s) T
+  poised-moves = poised-stepped .move
 
 module _ (C : Codebase) (T : Term) (p l r : ℕ) (x : Fired) (e e′ : List ℕ) (h : FiredIs T (step C T) p l r x e e′) where
   pub fired-moved : (r′ : ℕ) → x ≡ Made r′ → Moved C T p l r r′ e e′

@@ -1,4 +1,5 @@
 pub mod Strip
 pub mod Program
 pub mod Bodies
+pub mod Choice
 pub mod Contract

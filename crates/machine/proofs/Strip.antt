@@ -4,7 +4,7 @@ use mathlib.Core.Path.{_≡_, refl, sym, ap, fun-ext}
 use Prim.Native.Nat.{ℕ}
 use native.Mathlib.Omega.{arith}
 use Rattle.calculus.specs.Term.{Term, Codebase, size, Scoped, Defined, Bare, BareCode, ClosedCode}
-use Rattle.calculus.specs.Term.Term.{var, fun, con, lam, app, callEvent, emit}
+use Rattle.calculus.specs.Term.Term.{var, fun, con, lam, app, callEvent, emit, sum, branch}
 use Rattle.calculus.specs.Strip.{stripEmit, strip, stripBody, stripCode}
 use Rattle.terms.specs.Encode.{Fits}
 
@@ -18,6 +18,8 @@ strip-bare (lam l b) p = refl
 strip-bare (app a b) p = refl
 strip-bare (callEvent f a r) p = absurd p
 strip-bare (emit f a r) p = absurd p
+strip-bare (sum a b) p = refl
+strip-bare (branch c a b) p = refl
 
 -- Code without commands is its own stripped code.
 pub strip-same : (C : Codebase) → BareCode C → stripCode C ≡ C
@@ -39,6 +41,8 @@ module _ (P : Term → Type 0) (call : (f : ℕ) (a r : Term) → P (callEvent f
   emit-keeps (app a b) h = h
   emit-keeps (callEvent f a r) h = h
   emit-keeps (emit f a r) h = log f a r h
+  emit-keeps (sum a b) h = h
+  emit-keeps (branch c a b) h = h
 
   strip-keeps : (b : Term) → P b → P (strip b)
   strip-keeps (var i) h = h
@@ -48,6 +52,8 @@ module _ (P : Term → Type 0) (call : (f : ℕ) (a r : Term) → P (callEvent f
   strip-keeps (app a b) h = h
   strip-keeps (callEvent f a r) h = emit-keeps r (call f a r h)
   strip-keeps (emit f a r) h = h
+  strip-keeps (sum a b) h = h
+  strip-keeps (branch c a b) h = h
 
 pub strip-scoped : (d : ℕ) (b : Term) → Scoped d b → Scoped d (strip b)
 strip-scoped d = strip-keeps (Scoped d) (λ f a r h. h .1) (λ f a r h. h .1)
@@ -76,7 +82,11 @@ strip-size (callEvent f a r) = on r
     on (app a b) = refl
     on (callEvent f a r) = refl
     on (emit f a r) = refl
+    on (sum a b) = refl
+    on (branch c a b) = refl
 strip-size (emit f a r) = refl
+strip-size (sum a b) = refl
+strip-size (branch c a b) = refl
 
 -- ---- names
 
@@ -93,6 +103,8 @@ defined-strip C (lam l b) h = defined-strip C b h
 defined-strip C (app a b) h = (defined-strip C a (h .0), defined-strip C b (h .1))
 defined-strip C (callEvent f a r) h = (defined-strip C a (h .0), defined-strip C r (h .1))
 defined-strip C (emit f a r) h = (defined-strip C a (h .0), defined-strip C r (h .1))
+defined-strip C (sum a b) h = (defined-strip C a (h .0), defined-strip C b (h .1))
+defined-strip C (branch c a b) h = (defined-strip C c (h .0), defined-strip C a (h .1), defined-strip C b (h .2))
 
 -- The stripped body of a function is that of its body.
 pub record Stripped (C : Codebase) (f : ℕ) (b : Term) : Type 0 where

@@ -7,7 +7,7 @@ use Prim.Native.Nat.{ℕ, _+_, _<_}
 use lib.Dec.{eqb}
 use lib.ListN.{length, getD}
 use Rattle.calculus.specs.Term.{Term, codebase}
-use Rattle.calculus.specs.Term.Term.{var, fun, con, lam, app, callEvent, emit}
+use Rattle.calculus.specs.Term.Term.{var, fun, con, lam, app, callEvent, emit, sum, branch}
 use Rattle.terms.specs.Record.{kindAt}
 use Rattle.terms.specs.Read.{termAt}
 use Rattle.terms.specs.Encode.{Fits}
@@ -25,6 +25,8 @@ emitMark (lam l b) = 1
 emitMark (app a b) = 1
 emitMark (callEvent f a r) = 1
 emitMark (emit f a r) = 2
+emitMark (sum a b) = 1
+emitMark (branch c a b) = 1
 
 -- How many commands a body begins with: none, 6, or 6 and 7.
 abbrev pub markOf : Term → ℕ
@@ -35,6 +37,8 @@ markOf (lam l b) = 0
 markOf (app a b) = 0
 markOf (callEvent f a r) = emitMark r
 markOf (emit f a r) = 0
+markOf (sum a b) = 0
+markOf (branch c a b) = 0
 
 -- The same by the kinds of the records at i and, past the argument of a 6, at i + 2.
 unfoldable pub commandsAt : List ℕ → ℕ → ℕ

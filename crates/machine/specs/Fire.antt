@@ -1,6 +1,7 @@
 -- What firing a redex does, by the calculus's step. Assumes nothing.
 use mathlib.Core.Bool.{Bool, cond}
 use mathlib.Core.List.{List}
+use mathlib.Core.Logic.{_⊎_}
 use mathlib.Core.Path.{_≡_}
 use Prim.Native.Nat.{ℕ, _+_, _-_, _<_, _≤_}
 use lib.Dec.{eqb, leb}
@@ -27,9 +28,10 @@ bodyFor e s bodies p = cond (eqb (kindAt e (p + 1)) 2) (termAt s (calledAt e bod
 -- That body lies there.
 pub record Source (e s bodies : List ℕ) (p : ℕ) : Type 0 where
   pub inside : p + 1 < count e
+  pub kinds : (kindAt e (p + 1) ≡ 2) ⊎ (kindAt e (p + 1) ≡ 4)
   pub named : kindAt e (p + 1) ≡ 2 → recordNumber e (p + 1) < length bodies
   pub called : kindAt e (p + 1) ≡ 2 → Lies s (calledAt e bodies p) (termAt s (calledAt e bodies p))
-  pub applied : (kindAt e (p + 1) ≡ 2 → ⊥) → Lies e (p + 2) (termAt e (p + 2))
+  pub applied : kindAt e (p + 1) ≡ 4 → Lies e (p + 2) (termAt e (p + 2))
 
 -- The buffers hold T at its next redex, and all its function names are defined.
 pub record Ready (C : Codebase) (e : List ℕ) (p l r : ℕ) (T : Term) : Type 0 where

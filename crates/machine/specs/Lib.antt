@@ -1,4 +1,5 @@
 pub mod Program
 pub mod Bodies
 pub mod Fire
+pub mod Choice
 pub mod Outcome

@@ -1,4 +1,5 @@
-// One step of a run, on the bytes: where a script's bodies lie, and the redex replaced by the body that takes its argument.
+// One step of a run, on the bytes: where a script's bodies lie, and the redex replaced by the body that takes its argument, by a sum or by the
+// term that a branch chooses.
 use substitution::Substituted;
 ghost use mathlib.Core.Path.{_≡_};
 ghost use Prim.Native.Nat.{_+_, _-_, _*_, _≤_, _<_};
@@ -11,6 +12,7 @@ ghost use Rattle.zipper.specs.Zipper.{wholeIn};
 ghost use Rattle.machine.specs.Program.{Formed, codeIn};
 ghost use Rattle.machine.specs.Bodies.{commandsAt, Positions, Found};
 ghost use Rattle.machine.specs.Fire.{bodyFor, Source, Ready, FiredIs, FitsIs};
+ghost use Rattle.machine.specs.Choice.{Addends, summed, Fork, ChoiceIs};
 ghost use Rattle.machine.specs.Outcome.{outcomeNumber};
 
 // How a run ends.
@@ -115,13 +117,15 @@ fn reduce(
             let at = index(bodies[f]);
             substitution::substitute(script, at, &e[from..to], scratch, st, room)
         }
-        _ => substitution::substitute(e, p + 2, &e[from..to], scratch, st, room),
+        4 => substitution::substitute(e, p + 2, &e[from..to], scratch, st, room),
+        // Nothing else is applied.
+        _ => Substituted::Full,
     }
 }
 
-// Fires the redex at record p, its function below l and its argument at r. The result goes to scratch first: where it would leave over
+// Fires the application at record p, its function below l and its argument at r. The result goes to scratch first: where it would leave over
 // 1,024 records in all, nothing has changed yet.
-pub fn fire(
+fn apply(
     e: &mut [u8],
     scratch: &mut [u8],
     st: &mut [u16],
@@ -132,6 +136,7 @@ pub fn fire(
     r: usize,
 ) -> Fired
     requires { ⌜ Ready (codeIn (now script)) (now e) p l r (wholeIn (now e) l r) ⌝ }
+    requires { ⌜ kindAt (now e) p ≡ 5 ⌝ }
     requires { ⌜ Positions (now script) (now bodies) ⌝ }
     requires { ⌜ 24576 ≤ length (now scratch) ⌝ }
     requires { ⌜ 1024 ≤ length (now st) ⌝ }
@@ -148,7 +153,62 @@ pub fn fire(
     }
 }
 
-// Whether the redex's result leaves at most 1,024 records in all; the expression stays as it is.
+// Adds the two constants of the sum at record p: their sum takes the place of the second, at r.
+fn add(e: &mut [u8], p: usize, r: usize)
+    requires { ⌜ Addends (now e) p r ⌝ }
+    ensures { λ _. ⌜ now (e .exit) ≡ summed (now (e .entry)) p r ⌝ }
+{
+    let total = terms::number(e, p + 1) + terms::number(e, r);
+    words::put_u32(e, 8 * r + 4, total);
+}
+
+// Chooses a term of the branch whose first, a constant, is at record r, and says where it begins: on 0 the second, which is moved to end where
+// the third does, else the third as it lies.
+fn choose(e: &mut [u8], r: usize) -> usize
+    requires { ⌜ Fork (now e) r ⌝ }
+    ensures { λ x. ⌜ ChoiceIs (now (e .entry)) r x (now (e .exit)) ⌝ }
+{
+    let third = zipper::end_of(e, r + 1);
+    if terms::number(e, r) != 0 {
+        return third;
+    }
+    let n = third - (r + 1);
+    let to = zipper::end_of(e, third) - n;
+    words::move_within(e, 8 * to, 8 * (r + 1), 8 * n);
+    to
+}
+
+// Fires the redex at record p: what is done of it below l, the focus at r. A sum and a branch leave fewer records than they have.
+pub fn fire(
+    e: &mut [u8],
+    scratch: &mut [u8],
+    st: &mut [u16],
+    script: &[u8],
+    bodies: &[u32],
+    p: usize,
+    l: usize,
+    r: usize,
+) -> Fired
+    requires { ⌜ Ready (codeIn (now script)) (now e) p l r (wholeIn (now e) l r) ⌝ }
+    requires { ⌜ Positions (now script) (now bodies) ⌝ }
+    requires { ⌜ 24576 ≤ length (now scratch) ⌝ }
+    requires { ⌜ 1024 ≤ length (now st) ⌝ }
+    ensures { λ x. ⌜ FiredIs (wholeIn (now (e .entry)) l r) (step (codeIn (now (script .entry))) (wholeIn (now (e .entry)) l r)) p l r x (now (e .entry)) (now (e .exit)) ⌝ }
+{
+    let kind = e[8 * p];
+    match kind {
+        5 => apply(e, scratch, st, script, bodies, p, l, r),
+        9 => {
+            add(e, p, r);
+            Fired::Made(r)
+        }
+        10 => Fired::Made(choose(e, r)),
+        // No other kind begins a redex.
+        _ => Fired::Over,
+    }
+}
+
+// Whether the redex's result leaves at most 1,024 records in all, as that of a sum or a branch does; the expression stays as it is.
 pub fn fits(
     e: &[u8],
     scratch: &mut [u8],
@@ -165,6 +225,9 @@ pub fn fits(
     requires { ⌜ 1024 ≤ length (now st) ⌝ }
     ensures { λ x. ⌜ FitsIs (step (codeIn (now (script .entry))) (wholeIn (now (e .entry)) l r)) x ⌝ }
 {
+    if e[8 * p] != 5 {
+        return true;
+    }
     let end = zipper::end_of(e, r);
     let most = 8 * (1024 - (p + (3072 - end)));
     match reduce(e, p, 8 * r, 8 * end, script, bodies, scratch, st, most) {

@@ -5,7 +5,7 @@ use mathlib.Core.Path.{_≡_}
 use Prim.Native.Nat.{ℕ, zero, suc, _^_, _<_, _≤_}
 use native.Mathlib.Omega.{arith}
 use Rattle.calculus.specs.Term.{Term, Codebase, Program, codebase, view}
-use Rattle.calculus.specs.Term.Term.{var, fun, con, lam, app, callEvent, emit}
+use Rattle.calculus.specs.Term.Term.{var, fun, con, lam, app, callEvent, emit, sum, branch}
 use Rattle.calculus.specs.Step.{Event}
 use Rattle.calculus.specs.Step.Event.{calls}
 use Rattle.calculus.specs.Entailment.{Call, entry}
@@ -13,7 +13,7 @@ use Rattle.calculus.specs.Run.{initial, plainTick, plain, plainRun}
 use Rattle.calculus.specs.Claim.{callsBelow}
 use Rattle.calculus.proofs.Lists.{each-from}
 use Rattle.calculus.proofs.Steps.{Steps, step-sound}
-use Rattle.calculus.proofs.Steps.Steps.{apply, call, left, right}
+use Rattle.calculus.proofs.Steps.Steps.{apply, call, add, second, third, left, right, augend, addend, condition}
 use Rattle.calculus.proofs.Run.{Advance, advance, run-zero}
 use Rattle.calculus.proofs.Run.Advance.{rests, moves}
 use Rattle.calculus.proofs.Trace.{made-exactly}
@@ -33,14 +33,23 @@ FitsCode C = (f : ℕ) (b : Term) → C f ≡ some b → Fits b
 steps-fit : {C : Codebase} → FitsCode C → {e e′ : Term} {ev : Event} → Steps C e ev e′ → Fits e → Fits e′
 steps-fit code (apply {b = b} {v = v} p h) w = rw h (put-fits 0 v b (w .1) (w .0 .1))
 steps-fit code (call {f = f} {b = b} {v = v} p c h) w = rw h (put-fits 0 v b (w .1) (code f b c))
+steps-fit code (add l h) w = rw h (omega arith)
+steps-fit code (second h) w = rw h (w .1)
+steps-fit code (third h) w = rw h (w .2)
 steps-fit code (left t) w = (steps-fit code t (w .0), w .1)
 steps-fit code (right p t) w = (w .0, steps-fit code t (w .1))
+steps-fit code (augend t) w = (steps-fit code t (w .0), w .1)
+steps-fit code (addend p t) w = (w .0, steps-fit code t (w .1))
+steps-fit code (condition t) w = (steps-fit code t (w .0), w .1, w .2)
 
 -- … and so do those of the call that it makes.
 call-fits : {C : Codebase} {e e′ : Term} {f : ℕ} {v : Term} → Steps C e (calls f v) e′ → Fits e → (f < 2 ^ 32) × Fits v
 call-fits (call p c h) w = (w .0, w .1)
 call-fits (left t) w = call-fits t (w .0)
 call-fits (right p t) w = call-fits t (w .1)
+call-fits (augend t) w = call-fits t (w .0)
+call-fits (addend p t) w = call-fits t (w .1)
+call-fits (condition t) w = call-fits t (w .0)
 
 -- ---- the plain run
 
@@ -56,7 +65,7 @@ plain-fits C code e w (suc n) = on (advance C e n) (plain-fits C code e w n)
 
 -- ---- entries
 
--- A view's kind is one of seven, and its number is one of the term's.
+-- A view's kind is one of nine, and its number is one of the term's or 0.
 view-fits : (v : Term) → Fits v → (view v .kind < 2 ^ 32) × (view v .number < 2 ^ 32)
 unfolding view
 view-fits (var i) w = (omega arith, w)
@@ -66,6 +75,8 @@ view-fits (lam l b) w = (omega arith, w .0)
 view-fits (app a b) w = (omega arith, omega arith)
 view-fits (callEvent f a r) w = (omega arith, w .0)
 view-fits (emit f a r) w = (omega arith, w .0)
+view-fits (sum a b) w = (omega arith, omega arith)
+view-fits (branch c a b) w = (omega arith, omega arith)
 
 module _ (S : Program) (fits : FitsProgram S) where
   -- The numbers of a call fit.

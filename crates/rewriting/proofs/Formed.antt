@@ -8,7 +8,7 @@ use native.Mathlib.Omega.{arith}
 use lib.ListN.{length, length-append}
 use Rattle.calculus.specs.Lists.{keep, each, among, distinct}
 use Rattle.calculus.specs.Term.{Term, Program, Codebase, Scoped, Defined, PlacedCode, codebase, records, size, definitionRecords, programRecords}
-use Rattle.calculus.specs.Term.Term.{var, fun, con, lam, app, callEvent, emit}
+use Rattle.calculus.specs.Term.Term.{var, fun, con, lam, app, callEvent, emit, sum, branch}
 use Rattle.calculus.specs.Guideline.{Guideline, Clause}
 use Rattle.calculus.specs.Rewriting.{logevents, triggers, logged, noted, instrument, rewriteFrom, rewrite}
 use Rattle.calculus.proofs.Growth.{rewrite-grows}
@@ -100,6 +100,8 @@ defined-more C C′ h (lam n b) d = defined-more C C′ h b d
 defined-more C C′ h (app a b) d = (defined-more C C′ h a (d .0), defined-more C C′ h b (d .1))
 defined-more C C′ h (callEvent n a r) d = (defined-more C C′ h a (d .0), defined-more C C′ h r (d .1))
 defined-more C C′ h (emit n a r) d = (defined-more C C′ h a (d .0), defined-more C C′ h r (d .1))
+defined-more C C′ h (sum a b) d = (defined-more C C′ h a (d .0), defined-more C C′ h b (d .1))
+defined-more C C′ h (branch c a b) d = (defined-more C C′ h c (d .0), defined-more C C′ h a (d .1), defined-more C C′ h b (d .2))
 
 -- ---- at most 1,120 records
 

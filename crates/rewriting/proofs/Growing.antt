@@ -11,7 +11,7 @@ use lib.Seq.{take-at}
 use Rattle.words.specs.Bytes.{bytes, part, part-none, part-append}
 use Rattle.calculus.specs.Lists.{each}
 use Rattle.calculus.specs.Term.{Term, records, definitionRecords}
-use Rattle.calculus.specs.Term.Term.{var, fun, con, lam, app, callEvent, emit}
+use Rattle.calculus.specs.Term.Term.{var, fun, con, lam, app, callEvent, emit, sum, branch}
 use Rattle.calculus.specs.Guideline.{Guideline}
 use Rattle.calculus.specs.Rewriting.{logged, noted, instrument, rewriteFrom}
 use Rattle.terms.specs.Record.{count, kindAt, recordNumber, record8}
@@ -60,24 +60,25 @@ instrument-records G f b = on (logged G f) (noted G f)
 -- ---- records that are no definitions
 
 -- The kinds of a term's records.
-stands-low : (s : List ℕ) (i : ℕ) (t : Term) → Stands s i t → Each (λ j. kindAt s j ≤ 7) i t
-stands-low s i (var n) h = omega arith
-stands-low s i (fun n) h = omega arith
-stands-low s i (con n) h = omega arith
-stands-low s i (lam n b) h = (omega arith, stands-low s (i + 1) b (h .1))
-stands-low s i (app a b) h = (omega arith, stands-low s (i + 1) a (h .1), stands-low s (i + 1 + records a) b (h .2))
-stands-low s i (callEvent n a r) h = (omega arith, stands-low s (i + 1) a (h .1), stands-low s (i + 1 + records a) r (h .2))
-stands-low s i (emit n a r) h = (omega arith, stands-low s (i + 1) a (h .1), stands-low s (i + 1 + records a) r (h .2))
+stands-low : (s : List ℕ) (i : ℕ) (t : Term) → Stands s i t → Each (λ j. kindAt s j ≡ 8 → ⊥) i t
+stands-low s i (var n) h = λ e. omega arith
+stands-low s i (fun n) h = λ e. omega arith
+stands-low s i (con n) h = λ e. omega arith
+stands-low s i (lam n b) h = (λ e. omega arith, stands-low s (i + 1) b (h .1))
+stands-low s i (app a b) h = (λ e. omega arith, stands-low s (i + 1) a (h .1), stands-low s (i + 1 + records a) b (h .2))
+stands-low s i (callEvent n a r) h = (λ e. omega arith, stands-low s (i + 1) a (h .1), stands-low s (i + 1 + records a) r (h .2))
+stands-low s i (emit n a r) h = (λ e. omega arith, stands-low s (i + 1) a (h .1), stands-low s (i + 1 + records a) r (h .2))
+stands-low s i (sum a b) h = (λ e. omega arith, stands-low s (i + 1) a (h .1), stands-low s (i + 1 + records a) b (h .2))
+stands-low s i (branch c a b) h = (λ e. omega arith, stands-low s (i + 1) c (h .1), stands-low s (i + 1 + records c) a (h .2), stands-low s (i + 1 + records c + records a) b (h .3))
 
 module _ (ms s : List ℕ) where
   -- They are copied.
-  grown-low : (k i n : ℕ) → k ≤ n → Between (λ j. kindAt s j ≤ 7) i (i + k) → grown ms s i n ≡ part s (8 * i) (8 * k) ++ grown ms s (i + k) (n - k)
+  grown-low : (k i n : ℕ) → k ≤ n → Between (λ j. kindAt s j ≡ 8 → ⊥) i (i + k) → grown ms s i n ≡ part s (8 * i) (8 * k) ++ grown ms s (i + k) (n - k)
   unfolding grown
   grown-low zero i n l h = rw (part-none s (8 * i), add-zero i, sub-zero n)
   grown-low (suc k) i zero l h = absurd (omega arith)
   grown-low (suc k) i (suc n) l h =
-      let o = h i (omega arith) (omega arith) in
-      let z : gainAt ms s i ≡ 0 = gain-other ms s i (λ e. omega arith) in
+      let z : gainAt ms s i ≡ 0 = gain-other ms s i (h i (omega arith) (omega arith)) in
       let q : 8 * suc k ≡ 8 + 8 * k = omega arith in
       let p : 8 * i + 8 ≡ 8 * (i + 1) = omega arith in
       let a : i + suc k ≡ i + 1 + k = omega arith in
@@ -91,7 +92,7 @@ module _ (ms s : List ℕ) where
       → grown ms s i n ≡ encode t ++ grown ms s (i + records t) (n - records t)
   unfolding part
   grown-term i n t rest h e l =
-      grown-low (records t) i n l (each-from (λ j. kindAt s j ≤ 7) i t (stands-low s i t h))
+      grown-low (records t) i n l (each-from (λ j. kindAt s j ≡ 8 → ⊥) i t (stands-low s i t h))
       ∙ ap (λ (x : List ℕ). x ++ grown ms s (i + records t) (n - records t)) (ap (take (8 * records t)) e ∙ take-at (encode t) rest (8 * records t) (encode-length t))
 
 -- ---- the program

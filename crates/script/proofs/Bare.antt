@@ -6,7 +6,7 @@ use Prim.Native.Nat.{ℕ, _+_, _<_, _≤_}
 use native.Mathlib.Omega.{arith}
 use borrow.Author.Tests.{le-leb, lt-leb}
 use Rattle.calculus.specs.Term.{Term, records, Bare}
-use Rattle.calculus.specs.Term.Term.{var, fun, con, lam, app, callEvent, emit}
+use Rattle.calculus.specs.Term.Term.{var, fun, con, lam, app, callEvent, emit, sum, branch}
 use Rattle.terms.specs.Record.{kindAt}
 use Rattle.terms.proofs.Stands.{Stands}
 use Rattle.script.specs.Check.{isCommand}
@@ -42,6 +42,8 @@ module _ (s : List ℕ) where
   bare-from i (app a b) h c = (bare-from (i + 1) a (h .1) (c .1), bare-from (i + 1 + records a) b (h .2) (c .2))
   bare-from i (callEvent n a r) h c = no-command s i (omega arith) (omega arith) (c .0)
   bare-from i (emit n a r) h c = no-command s i (omega arith) (omega arith) (c .0)
+  bare-from i (sum a b) h c = (bare-from (i + 1) a (h .1) (c .1), bare-from (i + 1 + records a) b (h .2) (c .2))
+  bare-from i (branch d a b) h c = (bare-from (i + 1) d (h .1) (c .1), bare-from (i + 1 + records d) a (h .2) (c .2), bare-from (i + 1 + records d + records a) b (h .3) (c .3))
 
   -- To the records.
   pub bare-into : (i : ℕ) (t : Term) → Stands s i t → Bare t → Each (NoCommand s) i t
@@ -52,3 +54,6 @@ module _ (s : List ℕ) where
   bare-into i (app a t) h b = (low-kind s i (omega arith), bare-into (i + 1) a (h .1) (b .0), bare-into (i + 1 + records a) t (h .2) (b .1))
   bare-into i (callEvent n a r) h b = absurd b
   bare-into i (emit n a r) h b = absurd b
+  bare-into i (sum a t) h b = (high-kind s i (omega arith), bare-into (i + 1) a (h .1) (b .0), bare-into (i + 1 + records a) t (h .2) (b .1))
+  bare-into i (branch c a t) h b =
+      (high-kind s i (omega arith), bare-into (i + 1) c (h .1) (b .0), bare-into (i + 1 + records c) a (h .2) (b .1), bare-into (i + 1 + records c + records a) t (h .3) (b .2))

@@ -4,7 +4,7 @@ use Prim.Native.Nat.{ℕ, suc, _+_, _<_, _≤_}
 use native.Mathlib.Decide.{decLt}
 use native.Mathlib.Omega.{arith}
 use Rattle.calculus.specs.Term.{Term, records}
-use Rattle.calculus.specs.Term.Term.{var, fun, con, lam, app, callEvent, emit}
+use Rattle.calculus.specs.Term.Term.{var, fun, con, lam, app, callEvent, emit, sum, branch}
 
 -- Every record from i on and before j.
 abbrev pub Between : (ℕ → Type 0) → ℕ → ℕ → Type 0
@@ -31,6 +31,8 @@ Each P i (lam n b) = P i × Each P (i + 1) b
 Each P i (app a b) = P i × Each P (i + 1) a × Each P (i + 1 + records a) b
 Each P i (callEvent n a r) = P i × Each P (i + 1) a × Each P (i + 1 + records a) r
 Each P i (emit n a r) = P i × Each P (i + 1) a × Each P (i + 1 + records a) r
+Each P i (sum a b) = P i × Each P (i + 1) a × Each P (i + 1 + records a) b
+Each P i (branch c a b) = P i × Each P (i + 1) c × Each P (i + 1 + records c) a × Each P (i + 1 + records c + records a) b
 
 module _ (P : ℕ → Type 0) where
   -- The first record of a range.
@@ -58,6 +60,14 @@ module _ (P : ℕ → Type 0) where
       (here i (records a + records b) c, each-into (i + 1) a (left i (records a) (records b) c), each-into (i + 1 + records a) b (right i (records a) (records b) c))
   each-into i (emit n a b) c =
       (here i (records a + records b) c, each-into (i + 1) a (left i (records a) (records b) c), each-into (i + 1 + records a) b (right i (records a) (records b) c))
+  each-into i (sum a b) c =
+      (here i (records a + records b) c, each-into (i + 1) a (left i (records a) (records b) c), each-into (i + 1 + records a) b (right i (records a) (records b) c))
+  each-into i (branch d a b) c = (
+    here i (records d + (records a + records b)) c,
+    each-into (i + 1) d (left i (records d) (records a + records b) c),
+    each-into (i + 1 + records d) a (λ k p q. c k (omega arith) (omega arith)),
+    each-into (i + 1 + records d + records a) b (λ k p q. c k (omega arith) (omega arith)),
+  )
 
   -- A record and the two terms after it.
   pair : (i m n : ℕ) → P i → Between P (i + 1) (i + 1 + m) → Between P (i + 1 + m) (i + 1 + m + n) → Between P i (i + suc (m + n))
@@ -74,3 +84,7 @@ module _ (P : ℕ → Type 0) where
   each-from i (app a b) h = pair i (records a) (records b) (h .0) (each-from (i + 1) a (h .1)) (each-from (i + 1 + records a) b (h .2))
   each-from i (callEvent n a b) h = pair i (records a) (records b) (h .0) (each-from (i + 1) a (h .1)) (each-from (i + 1 + records a) b (h .2))
   each-from i (emit n a b) h = pair i (records a) (records b) (h .0) (each-from (i + 1) a (h .1)) (each-from (i + 1 + records a) b (h .2))
+  each-from i (sum a b) h = pair i (records a) (records b) (h .0) (each-from (i + 1) a (h .1)) (each-from (i + 1 + records a) b (h .2))
+  each-from i (branch c a b) h =
+      pair i (records c) (records a + records b) (h .0) (each-from (i + 1) c (h .1))
+      (λ k p q. between-join P (i + 1 + records c) (i + 1 + records c + records a) (i + 1 + records c + records a + records b) (each-from (i + 1 + records c) a (h .2)) (each-from (i + 1 + records c + records a) b (h .3)) k p (omega arith))

@@ -8,7 +8,7 @@ use lib.Dec.{eqb, ltb}
 use borrow.Author.Tests.{lt-ltb, ltb-true, eqb-true, eq-eqb, ne-eqb}
 use Rattle.calculus.specs.Lists.{each}
 use Rattle.calculus.specs.Term.{Term, records}
-use Rattle.calculus.specs.Term.Term.{var, fun, con, lam, app, callEvent, emit}
+use Rattle.calculus.specs.Term.Term.{var, fun, con, lam, app, callEvent, emit, sum, branch}
 use Rattle.terms.specs.Record.{count, kindAt, recordNumber}
 use Rattle.terms.specs.Read.{Read, readAt}
 use Rattle.terms.specs.Read.Read.{got, stuck}
@@ -31,14 +31,16 @@ bodiesOf ds = each (λ d. d .body ∷ []) ds
 -- ---- what is laid is found
 
 -- No term begins with kind 8.
-first-kind : (s : List ℕ) (i : ℕ) (t : Term) → Stands s i t → kindAt s i ≤ 7
-first-kind s i (var n) h = omega arith
-first-kind s i (fun n) h = omega arith
-first-kind s i (con n) h = omega arith
-first-kind s i (lam n b) h = omega arith
-first-kind s i (app a b) h = omega arith
-first-kind s i (callEvent n a r) h = omega arith
-first-kind s i (emit n a r) h = omega arith
+first-kind : (s : List ℕ) (i : ℕ) (t : Term) → Stands s i t → kindAt s i ≡ 8 → ⊥
+first-kind s i (var n) h = λ e. omega arith
+first-kind s i (fun n) h = λ e. omega arith
+first-kind s i (con n) h = λ e. omega arith
+first-kind s i (lam n b) h = λ e. omega arith
+first-kind s i (app a b) h = λ e. omega arith
+first-kind s i (callEvent n a r) h = λ e. omega arith
+first-kind s i (emit n a r) h = λ e. omega arith
+first-kind s i (sum a b) h = λ e. omega arith
+first-kind s i (branch c a b) h = λ e. omega arith
 
 -- A record of kind 8 begins a definition.
 definition-here : (s : List ℕ) (i n : ℕ) → At s i 8 n → isDefinition s i ≡ true
@@ -51,7 +53,7 @@ and-no false b e = refl
 
 -- A term's record does not.
 term-here : (s : List ℕ) (i : ℕ) (t : Term) → Stands s i t → isDefinition s i ≡ false
-term-here s i t h = and-no (ltb i (count s)) (eqb (kindAt s i) 8) (let k = first-kind s i t h in ne-eqb (kindAt s i) 8 (λ e. omega arith))
+term-here s i t h = and-no (ltb i (count s)) (eqb (kindAt s i) 8) (ne-eqb (kindAt s i) 8 (first-kind s i t h))
 
 -- What is laid is found.
 pub laid-file : (s : List ℕ) (i : ℕ) (ds : List Definition) (m : ℕ) (e : Term) → Laid s i ds m e → fileFrom s i ≡ whole ds m e

@@ -9,7 +9,7 @@ use lib.Dec.{ltb}
 use lib.ListN.{length}
 use borrow.Author.Tests.{lt-ltb, ltb-true, ne-eqb, not-false}
 use Rattle.calculus.specs.Term.{Term, Codebase, records, Defined, bodies}
-use Rattle.calculus.specs.Term.Term.{var, fun, con, lam, app, callEvent, emit}
+use Rattle.calculus.specs.Term.Term.{var, fun, con, lam, app, callEvent, emit, sum, branch}
 use Rattle.terms.specs.Record.{kindAt}
 use Rattle.terms.proofs.Stands.{At, Stands}
 use Rattle.script.specs.Check.{undefinedName}
@@ -57,6 +57,8 @@ module _ (s : List ℕ) (n : ℕ) where
     defined-from g i (app a b) h c = (defined-from g (i + 1) a (h .1) (c .1), defined-from g (i + 1 + records a) b (h .2) (c .2))
     defined-from g i (callEvent m a r) h c = (defined-from g (i + 1) a (h .1) (c .1), defined-from g (i + 1 + records a) r (h .2) (c .2))
     defined-from g i (emit m a r) h c = (defined-from g (i + 1) a (h .1) (c .1), defined-from g (i + 1 + records a) r (h .2) (c .2))
+    defined-from g i (sum a r) h c = (defined-from g (i + 1) a (h .1) (c .1), defined-from g (i + 1 + records a) r (h .2) (c .2))
+    defined-from g i (branch d a r) h c = (defined-from g (i + 1) d (h .1) (c .1), defined-from g (i + 1 + records d) a (h .2) (c .2), defined-from g (i + 1 + records d + records a) r (h .3) (c .3))
 
     -- To the records.
     pub defined-into : ((f : ℕ) → IsSome (C f) → f < n) → (i : ℕ) (t : Term) → Stands s i t → Defined C t → Each Known i t
@@ -70,3 +72,11 @@ module _ (s : List ℕ) (n : ℕ) where
         (other-known i (λ e. omega arith), defined-into g (i + 1) a (h .1) (d .0), defined-into g (i + 1 + records a) r (h .2) (d .1))
     defined-into g i (emit m a r) h d =
         (other-known i (λ e. omega arith), defined-into g (i + 1) a (h .1) (d .0), defined-into g (i + 1 + records a) r (h .2) (d .1))
+    defined-into g i (sum a r) h d =
+        (other-known i (λ e. omega arith), defined-into g (i + 1) a (h .1) (d .0), defined-into g (i + 1 + records a) r (h .2) (d .1))
+    defined-into g i (branch c a r) h d = (
+      other-known i (λ e. omega arith),
+      defined-into g (i + 1) c (h .1) (d .0),
+      defined-into g (i + 1 + records c) a (h .2) (d .1),
+      defined-into g (i + 1 + records c + records a) r (h .3) (d .2),
+    )

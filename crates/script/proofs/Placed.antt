@@ -12,7 +12,7 @@ use borrow.Author.Tests.{lt-ltb, le-leb, leb-true, eqb-true, ltb-true, eq-eqb, n
 use Rattle.calculus.specs.Lists.{each}
 use Rattle.calculus.specs.Term.{Term, records, Bare, Placed, bodies}
 use Rattle.calculus.specs.Term.Placed.{plain, noting, logging}
-use Rattle.calculus.specs.Term.Term.{var, fun, con, lam, app, callEvent, emit}
+use Rattle.calculus.specs.Term.Term.{var, fun, con, lam, app, callEvent, emit, sum, branch}
 use Rattle.terms.specs.Record.{count, kindAt, recordNumber}
 use Rattle.terms.proofs.Stands.{At, Stands}
 use Rattle.script.specs.Check.{isCommand, isParameter, commandOf, placedCall, placedEmit, misplaced}
@@ -173,15 +173,17 @@ module _ (s : List ℕ) where
 
   -- ---- where in a term a command may stand
 
-  -- The kinds of a term's records are at most 7.
-  term-kinds : (i : ℕ) (t : Term) → Stands s i t → Each (λ k. kindAt s k ≤ 7) i t
-  term-kinds i (var n) h = omega arith
-  term-kinds i (fun n) h = omega arith
-  term-kinds i (con n) h = omega arith
-  term-kinds i (lam n b) h = (omega arith, term-kinds (i + 1) b (h .1))
-  term-kinds i (app a b) h = (omega arith, term-kinds (i + 1) a (h .1), term-kinds (i + 1 + records a) b (h .2))
-  term-kinds i (callEvent n a b) h = (omega arith, term-kinds (i + 1) a (h .1), term-kinds (i + 1 + records a) b (h .2))
-  term-kinds i (emit n a b) h = (omega arith, term-kinds (i + 1) a (h .1), term-kinds (i + 1 + records a) b (h .2))
+  -- The kinds of a term's records are not 8.
+  term-kinds : (i : ℕ) (t : Term) → Stands s i t → Each (λ k. kindAt s k ≡ 8 → ⊥) i t
+  term-kinds i (var n) h = λ e. omega arith
+  term-kinds i (fun n) h = λ e. omega arith
+  term-kinds i (con n) h = λ e. omega arith
+  term-kinds i (lam n b) h = (λ e. omega arith, term-kinds (i + 1) b (h .1))
+  term-kinds i (app a b) h = (λ e. omega arith, term-kinds (i + 1) a (h .1), term-kinds (i + 1 + records a) b (h .2))
+  term-kinds i (callEvent n a b) h = (λ e. omega arith, term-kinds (i + 1) a (h .1), term-kinds (i + 1 + records a) b (h .2))
+  term-kinds i (emit n a b) h = (λ e. omega arith, term-kinds (i + 1) a (h .1), term-kinds (i + 1 + records a) b (h .2))
+  term-kinds i (sum a b) h = (λ e. omega arith, term-kinds (i + 1) a (h .1), term-kinds (i + 1 + records a) b (h .2))
+  term-kinds i (branch c a b) h = (λ e. omega arith, term-kinds (i + 1) c (h .1), term-kinds (i + 1 + records c) a (h .2), term-kinds (i + 1 + records c + records a) b (h .3))
 
   -- A call has three records or more.
   call-long : (i : ℕ) (t : Term) → Stands s i t → kindAt s i ≡ 6 → 3 ≤ records t
@@ -193,6 +195,8 @@ module _ (s : List ℕ) where
   call-long i (app a b) h e = absurd (omega arith)
   call-long i (callEvent n a r) h e = omega (arith, records-some a, records-some r)
   call-long i (emit n a r) h e = absurd (omega arith)
+  call-long i (sum a r) h e = absurd (omega arith)
+  call-long i (branch c a r) h e = absurd (omega arith)
 
   module _ (j : ℕ) (t : Term) (h : Stands s j t) where
     -- A call may stand at the term's first record only.
@@ -202,8 +206,8 @@ module _ (s : List ℕ) where
         on : Dec (j < k) → k ≡ j
         on (yes l) =
             let c = call-parts k e in
-            let w = each-from (λ k. kindAt s k ≤ 7) j t (term-kinds j t h) (k - 1) (omega arith) (omega arith) in
-            absurd (omega (arith, c .definition))
+            let w = each-from (λ k. kindAt s k ≡ 8 → ⊥) j t (term-kinds j t h) (k - 1) (omega arith) (omega arith) in
+            absurd (w (c .definition))
         on (no l) = omega arith
 
     -- And then the term is long enough.
@@ -249,8 +253,8 @@ module _ (s : List ℕ) where
           call =
               λ e.
               let c = call-parts (i + 1 + records b) e .definition in
-              let w = each-from (λ k. kindAt s k ≤ 7) (i + 1) b (term-kinds (i + 1) b h) (i + 1 + records b - 1) (omega arith) (omega arith) in
-              omega arith;
+              let w = each-from (λ k. kindAt s k ≡ 8 → ⊥) (i + 1) b (term-kinds (i + 1) b h) (i + 1 + records b - 1) (omega arith) (omega arith) in
+              w c;
           emit =
               λ e.
               let c = emit-parts (i + 1 + records b) e in
@@ -290,6 +294,8 @@ module _ (s : List ℕ) where
   parameter-term i (app a b) h e z = absurd (omega arith)
   parameter-term i (callEvent n a r) h e z = absurd (omega arith)
   parameter-term i (emit n a r) h e z = absurd (omega arith)
+  parameter-term i (sum a r) h e z = absurd (omega arith)
+  parameter-term i (branch c a r) h e z = absurd (omega arith)
 
   module _ (i f : ℕ) (d : At s i 8 f) where
     module _ (t : Term) (h : Stands s (i + 1) t) where
@@ -368,6 +374,8 @@ module _ (s : List ℕ) where
     call-body (lam m b) h c = noted (lam m b) h c (λ e. omega arith)
     call-body (app a b) h c = noted (app a b) h c (λ e. omega arith)
     call-body (callEvent m a b) h c = noted (callEvent m a b) h c (λ e. omega arith)
+    call-body (sum a b) h c = noted (sum a b) h c (λ e. omega arith)
+    call-body (branch d a b) h c = noted (branch d a b) h c (λ e. omega arith)
     call-body (emit m a b) h c = on (right-by (i + 1 + 1 + 1) (c (i + 1 + 1 + 1) (omega arith) (omega arith)))
       where
         on : Allowed (isCommand s (i + 1 + 1 + 1)) (placedCall s (i + 1 + 1 + 1)) (placedEmit s (i + 1 + 1 + 1)) → Placed f (callEvent f (var 0) (emit m a b))
@@ -398,6 +406,8 @@ module _ (s : List ℕ) where
         on (first q) =
             subst (λ (t : Term). Stands s (i + 1) t → Between Right (i + 1) (i + 1 + records t) → Placed f t) (sym (call-shape m a r h (call-parts (i + 1) q))) (call-body r) h c
         on (second q) = absurd (let z = emit-third (callEvent m a r) h (i + 1) (omega arith) (omega arith) q in omega arith)
+    body-placed (sum a b) h c = plain (body-bare (sum a b) h (λ e. omega arith) c)
+    body-placed (branch d a b) h c = plain (body-bare (branch d a b) h (λ e. omega arith) c)
     body-placed (emit m a r) h c = plain (body-bare (emit m a r) h (λ e. omega arith) c)
 
     -- ---- and back

@@ -8,11 +8,11 @@ use lib.ListN.{length, drop}
 use borrow.Author.Tests.{le-leb, leb-true}
 use Rattle.words.specs.Bytes.{bytes}
 use Rattle.calculus.specs.Term.{Term, records}
-use Rattle.calculus.specs.Term.Term.{var, fun, con, lam, app, callEvent, emit}
+use Rattle.calculus.specs.Term.Term.{var, fun, con, lam, app, callEvent, emit, sum, branch}
 use Rattle.terms.specs.Record.{record8, inRange}
 use Rattle.terms.specs.Encode.{encode, Fits, encodeFrom}
 use Rattle.terms.proofs.Encode.{record-kind, record-spare, record-number, record-rest}
-use Rattle.terms.proofs.Range.{range-var, range-name, range-lam, range-app, range-function}
+use Rattle.terms.proofs.Range.{range-var, range-name, range-lam, range-app, range-function, range-sum}
 use Rattle.terms.proofs.Stands.{At, Stands}
 use Rattle.script.specs.Check.{malformed}
 use Rattle.script.specs.WellFormed.{InRanges}
@@ -34,6 +34,8 @@ ranges-fit (lam n b) h = (omega arith, ranges-fit b (h .1))
 ranges-fit (app a b) h = (ranges-fit a (h .0), ranges-fit b (h .1))
 ranges-fit (callEvent n a r) h = (h .0, ranges-fit a (h .1), ranges-fit r (h .2))
 ranges-fit (emit n a r) h = (h .0, ranges-fit a (h .1), ranges-fit r (h .2))
+ranges-fit (sum a b) h = (ranges-fit a (h .0), ranges-fit b (h .1))
+ranges-fit (branch c a b) h = (ranges-fit c (h .0), ranges-fit a (h .1), ranges-fit b (h .2))
 
 module _ (s : List ℕ) where
   -- A record that is not malformed has its number in its range.
@@ -57,6 +59,12 @@ module _ (s : List ℕ) where
   ranges-from i (app a b) f h c = (ranges-from (i + 1) a (f .0) (h .1) (c .1), ranges-from (i + 1 + records a) b (f .1) (h .2) (c .2))
   ranges-from i (callEvent n a r) f h c = (f .0, ranges-from (i + 1) a (f .1) (h .1) (c .1), ranges-from (i + 1 + records a) r (f .2) (h .2) (c .2))
   ranges-from i (emit n a r) f h c = (f .0, ranges-from (i + 1) a (f .1) (h .1) (c .1), ranges-from (i + 1 + records a) r (f .2) (h .2) (c .2))
+  ranges-from i (sum a b) f h c = (ranges-from (i + 1) a (f .0) (h .1) (c .1), ranges-from (i + 1 + records a) b (f .1) (h .2) (c .2))
+  ranges-from i (branch d a b) f h c = (
+    ranges-from (i + 1) d (f .0) (h .1) (c .1),
+    ranges-from (i + 1 + records d) a (f .1) (h .2) (c .2),
+    ranges-from (i + 1 + records d + records a) b (f .2) (h .3) (c .3),
+  )
 
   -- A record that was written with a number in its range.
   written : (i k n : ℕ) (rest : List ℕ) → drop (8 * i) s ≡ record8 k n rest → n < 2 ^ 32 → inRange k n ≡ true → Formed s i
@@ -107,6 +115,20 @@ module _ (s : List ℕ) where
     ranges-into (i + 1) a (encode b ++ rest) (r .1) (written-first i 7 n a b rest e),
     ranges-into (i + 1 + records a) b rest (r .2) (written-second i 7 n a b rest e),
   )
+  ranges-into i (sum a b) rest r e = (
+    written-here i 9 0 (encode a ++ encode b) rest e (omega arith) (range-sum 9 0 (omega arith) (omega arith)),
+    ranges-into (i + 1) a (encode b ++ rest) (r .0) (written-first i 9 0 a b rest e),
+    ranges-into (i + 1 + records a) b rest (r .1) (written-second i 9 0 a b rest e),
+  )
+  ranges-into i (branch c a b) rest r e =
+      let f : drop (8 * (i + 1)) s ≡ encode c ++ (encode a ++ (encode b ++ rest)) = written-next i 10 0 (encode c ++ (encode a ++ encode b)) rest e ∙ simp append-assoc in
+      let g : drop (8 * (i + 1 + records c)) s ≡ encode a ++ (encode b ++ rest) = after-term s (i + 1) c (encode a ++ (encode b ++ rest)) f in
+      let k : drop (8 * (i + 1 + records c + records a)) s ≡ encode b ++ rest = after-term s (i + 1 + records c) a (encode b ++ rest) g in (
+        written-here i 10 0 (encode c ++ (encode a ++ encode b)) rest e (omega arith) (range-sum 10 0 (omega arith) (omega arith)),
+        ranges-into (i + 1) c (encode a ++ (encode b ++ rest)) (r .0) f,
+        ranges-into (i + 1 + records c) a (encode b ++ rest) (r .1) g,
+        ranges-into (i + 1 + records c + records a) b rest (r .2) k,
+      )
 
   -- The same of a program's bytes: its terms, and the records of its definitions.
   pub ranges-file : (i f : ℕ) (bs : List Term) (e : Term) → Every InRanges bs e → f + length bs ≤ 2 ^ 32 → drop (8 * i) s ≡ encodeFrom f bs e

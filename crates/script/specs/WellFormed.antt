@@ -4,7 +4,7 @@ use mathlib.Core.List.{List, [], _∷_, List·Memᴰ}
 use Prim.Native.Nat.{ℕ, suc, _+_, _^_, _<_, _≤_}
 use lib.ListN.{length}
 use Rattle.calculus.specs.Term.{Term, Program, Scoped, Defined, Bare, PlacedCode, BareProgram, size, codebase, programRecords}
-use Rattle.calculus.specs.Term.Term.{var, fun, con, lam, app, callEvent, emit}
+use Rattle.calculus.specs.Term.Term.{var, fun, con, lam, app, callEvent, emit, sum, branch}
 use Rattle.script.specs.Check.{mostRecords}
 use Rattle.script.specs.declared.Purpose.{Purpose}
 use Rattle.script.specs.declared.Purpose.the-variants.{Checking, Rewriting, PlainRun, RewrittenRun}
@@ -18,6 +18,8 @@ InRanges (lam n b) = (n ≤ 65535) × InRanges b
 InRanges (app a b) = InRanges a × InRanges b
 InRanges (callEvent n a r) = (n < 2 ^ 32) × InRanges a × InRanges r
 InRanges (emit n a r) = (n < 2 ^ 32) × InRanges a × InRanges r
+InRanges (sum a b) = InRanges a × InRanges b
+InRanges (branch c a b) = InRanges c × InRanges a × InRanges b
 
 -- The records of a program besides commands and their arguments; each definition has one of its own.
 unfoldable pub definitionSizes : List Term → ℕ

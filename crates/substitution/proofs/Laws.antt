@@ -11,7 +11,7 @@ use lib.Seq.{drop-at, drop-drop}
 use Rattle.words.specs.Bytes.{part, AllBytes}
 use Rattle.words.specs.Put.{put, put-length, part-put}
 use Rattle.calculus.specs.Term.{Term, records, Bare}
-use Rattle.calculus.specs.Term.Term.{var, fun, con, lam, app, callEvent, emit}
+use Rattle.calculus.specs.Term.Term.{var, fun, con, lam, app, callEvent, emit, sum, branch}
 use Rattle.calculus.specs.Substitution.{put as putTerm}
 use Rattle.terms.specs.Record.{record8}
 use Rattle.terms.specs.Encode.{encode, Fits}
@@ -40,6 +40,9 @@ copied-encode d v (lam n t) = ap (record8 4 n) (copied-encode (suc d) v t)
 copied-encode d v (app a b) = ap₂ (λ (x y : List ℕ). record8 5 0 (x ++ y)) (copied-encode d v a) (copied-encode d v b)
 copied-encode d v (callEvent n a r) = ap₂ (λ (x y : List ℕ). record8 6 n (x ++ y)) (copied-encode d v a) (copied-encode d v r)
 copied-encode d v (emit n a r) = ap₂ (λ (x y : List ℕ). record8 7 n (x ++ y)) (copied-encode d v a) (copied-encode d v r)
+copied-encode d v (sum a b) = ap₂ (λ (x y : List ℕ). record8 9 0 (x ++ y)) (copied-encode d v a) (copied-encode d v b)
+copied-encode d v (branch c a b) =
+    ap₂ (λ (x y : List ℕ). record8 10 0 (x ++ y)) (copied-encode d v c) (ap₂ (λ (x y : List ℕ). x ++ y) (copied-encode d v a) (copied-encode d v b))
 
 -- ---- sizes
 
@@ -55,6 +58,8 @@ uses d (lam n t) = uses (suc d) t
 uses d (app a b) = uses d a + uses d b
 uses d (callEvent n a r) = uses d a + uses d r
 uses d (emit n a r) = uses d a + uses d r
+uses d (sum a b) = uses d a + uses d b
+uses d (branch c a b) = uses d c + (uses d a + uses d b)
 
 -- Each use of the variable is one record less and the value's records more.
 pub put-records : (d : ℕ) (v t : Term) → records (putTerm d v t) + uses d t ≡ records t + uses d t * records v
@@ -70,6 +75,9 @@ put-records d v (lam n t) = omega (arith, put-records (suc d) v t)
 put-records d v (app a b) = omega (arith, put-records d v a, put-records d v b, add-mul (uses d a) (uses d b) (records v))
 put-records d v (callEvent n a r) = omega (arith, put-records d v a, put-records d v r, add-mul (uses d a) (uses d r) (records v))
 put-records d v (emit n a r) = omega (arith, put-records d v a, put-records d v r, add-mul (uses d a) (uses d r) (records v))
+put-records d v (sum a b) = omega (arith, put-records d v a, put-records d v b, add-mul (uses d a) (uses d b) (records v))
+put-records d v (branch c a b) =
+    omega (arith, put-records d v c, put-records d v a, put-records d v b, add-mul (uses d c) (uses d a + uses d b) (records v), add-mul (uses d a) (uses d b) (records v))
 
 -- No term gets smaller.
 pub put-records-le : (d : ℕ) (v t : Term) → records t ≤ records (putTerm d v t)
@@ -85,6 +93,8 @@ put-records-le d v (lam n t) = omega (arith, put-records-le (suc d) v t)
 put-records-le d v (app a b) = omega (arith, put-records-le d v a, put-records-le d v b)
 put-records-le d v (callEvent n a r) = omega (arith, put-records-le d v a, put-records-le d v r)
 put-records-le d v (emit n a r) = omega (arith, put-records-le d v a, put-records-le d v r)
+put-records-le d v (sum a b) = omega (arith, put-records-le d v a, put-records-le d v b)
+put-records-le d v (branch c a b) = omega (arith, put-records-le d v c, put-records-le d v a, put-records-le d v b)
 
 -- The numbers of the copy's records fit.
 pub put-fits : (d : ℕ) (v t : Term) → Fits v → Fits t → Fits (putTerm d v t)
@@ -100,6 +110,8 @@ put-fits d v (lam n t) g f = (f .0, put-fits (suc d) v t g (f .1))
 put-fits d v (app a b) g f = (put-fits d v a g (f .0), put-fits d v b g (f .1))
 put-fits d v (callEvent n a r) g f = (f .0, put-fits d v a g (f .1), put-fits d v r g (f .2))
 put-fits d v (emit n a r) g f = (f .0, put-fits d v a g (f .1), put-fits d v r g (f .2))
+put-fits d v (sum a b) g f = (put-fits d v a g (f .0), put-fits d v b g (f .1))
+put-fits d v (branch c a b) g f = (put-fits d v c g (f .0), put-fits d v a g (f .1), put-fits d v b g (f .2))
 
 -- ---- the term at a record
 

@@ -8,7 +8,7 @@ use borrow.Author.Tests.{eq-eqb, ne-eqb}
 use lib.Dec.{eqb}
 use lib.ListN.{length, getD, length-append}
 use Rattle.calculus.specs.Term.{Term, records, Bare}
-use Rattle.calculus.specs.Term.Term.{var, fun, con, lam, app, callEvent, emit}
+use Rattle.calculus.specs.Term.Term.{var, fun, con, lam, app, callEvent, emit, sum, branch}
 use Rattle.terms.specs.Encode.{encode, Fits}
 use Rattle.terms.proofs.Encode.{encode-length}
 use Rattle.substitution.specs.Copied.{copied}
@@ -48,6 +48,8 @@ Plain (lam n b) = Plain b
 Plain (app a b) = Plain a × Plain b
 Plain (callEvent n a r) = ⊥
 Plain (emit n a r) = ⊥
+Plain (sum a b) = Plain a × Plain b
+Plain (branch c a b) = Plain c × Plain a × Plain b
 
 abbrev pub PlainG : List Term → Type 0
 PlainG [] = Unit {0}
@@ -83,6 +85,8 @@ plain (lam n t) b f = plain t b (f .1)
 plain (app a r) b f = (plain a (b .0) (f .0), plain r (b .1) (f .1))
 plain (callEvent n a r) b f = b
 plain (emit n a r) b f = b
+plain (sum a r) b f = (plain a (b .0) (f .0), plain r (b .1) (f .1))
+plain (branch c a r) b f = (plain c (b .0) (f .0), plain a (b .1) (f .1), plain r (b .2) (f .2))
 
 -- A stack that is the same below the groups' depth serves as well.
 pub stack-kept : (s s′ : List ℕ) (gs : List (List Term)) → ((i : ℕ) → suc i < length gs → getD s′ i 0 ≡ getD s i 0) → Stack s gs → Stack s′ gs
@@ -99,6 +103,8 @@ records-some (lam n t) = omega arith
 records-some (app a b) = omega arith
 records-some (callEvent n a r) = omega arith
 records-some (emit n a r) = omega arith
+records-some (sum a b) = omega arith
+records-some (branch c a b) = omega arith
 
 many-flatG : (g : List Term) → 8 * length g ≤ length (flatG g)
 many-flatG [] = omega arith

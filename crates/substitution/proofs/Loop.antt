@@ -1,8 +1,9 @@
 -- The loop of the copy: what is written, what is passed and not yet written, and what is to come make up the whole copy. Assumes nothing.
-use mathlib.Core.Bool.{Bool, true, false, _&&_, true≢false}
+use mathlib.Core.Bool.{Bool, true, false, cond, _&&_, true≢false}
 use mathlib.Core.List.{List, [], _∷_, _++_, append-assoc, append-nil}
 use mathlib.Core.Path.{_≡_, refl, sym, ap, ap₂, _∙_}
 use Prim.Native.Nat.{ℕ, suc, _+_, _-_, _*_, _/_, _≤_, _<_, min}
+use native.Mathlib.Decide.{ℕ-discrete}
 use native.Mathlib.Omega.{arith}
 use borrow.Author.Tests.{eqb-true, eq-eqb, ne-eqb}
 use lib.Dec.{eqb}
@@ -11,7 +12,7 @@ use lib.Seq.{take-at, getD-drop, getD-set-same, getD-set-other}
 use Rattle.words.specs.Bytes.{bytes, part, bytes-length, part-none, part-append}
 use Rattle.words.specs.Put.{put, put-length, put-put, put-none}
 use Rattle.calculus.specs.Term.{Term, records}
-use Rattle.calculus.specs.Term.Term.{var, fun, con, lam, app, callEvent, emit}
+use Rattle.calculus.specs.Term.Term.{var, fun, con, lam, app, callEvent, emit, sum, branch}
 use Rattle.terms.specs.Record.{kindAt, recordNumber, record8}
 use Rattle.terms.specs.Encode.{encode, Fits}
 use Rattle.terms.proofs.Encode.{encode-length, record-inside, record-number, record-rest}
@@ -61,6 +62,17 @@ piece s u from i = passed s from i ++ u
 -- The bytes after a term.
 abbrev pub behind : List ℕ → ℕ → Term → List ℕ
 behind s at t = drop (8 * (at + records t)) s
+
+-- How many terms more are to come after the record of an application, a sum or a branch.
+abbrev pub more : ℕ → ℕ
+more k = cond (eqb k 10) 2 1
+
+pub more-further : (k : ℕ) → 9 ≤ k → k ≤ 10 → k - 8 ≡ more k
+more-further k a b = by (ℕ-discrete k 10)
+  where
+    by : Dec (k ≡ 10) → k - 8 ≡ more k
+    by (yes e) = rw e
+    by (no n) = rw (ne-eqb k 10 n) (omega arith)
 
 -- ---- the loop
 
@@ -197,14 +209,25 @@ module _ {s u o : List ℕ} {at lim : ℕ} {t : Term} where
           (rw (q, d) (getD-set-same st depth (need - 1) 0 (omega (arith, h .deep, h .high, h .few)) ∙ sym v), stack-kept st st′ (ts ∷ gs) (λ x l. rw q (getD-set-other st depth x (need - 1) 0 (λ e. omega (arith, h .depth-is)))) (h .stack))
           (ap length q ∙ length-set st depth (need - 1))
 
-      at-app : (a b : Term) (ts : List Term) (gs : List (List Term)) → Stage s u o at lim t out st i from need depth pos ((app a b ∷ ts) ∷ gs) done → Stage s u o at lim t out st (i + 1) from (need + 1) depth pos ((a ∷ (b ∷ ts)) ∷ gs) done
-      at-app a b ts gs h =
+      -- An application, 5, or a sum, 9.
+      at-pair : (k : ℕ) (w : Term → Term → Term) (a b : Term) (ts : List Term) (gs : List (List Term))
+          → encode (w a b) ≡ record8 k 0 (encode a ++ encode b) → copied (length gs) u (w a b) ≡ record8 k 0 (copied (length gs) u a ++ copied (length gs) u b)
+          → Plains ((a ∷ (b ∷ ts)) ∷ gs) → Stage s u o at lim t out st i from need depth pos ((w a b ∷ ts) ∷ gs) done
+          → Stage s u o at lim t out st (i + 1) from (need + 1) depth pos ((a ∷ (b ∷ ts)) ∷ gs) done
+      at-pair k w a b ts gs f e p h =
+          go-on k 0 ((w a b ∷ ts) ∷ gs) ((a ∷ (b ∷ ts)) ∷ gs) h
+          (ap (λ (l : List ℕ). (l ++ flatG ts) ++ flat gs) f ∙ ap (λ (l : List ℕ). k ∷ 0 ∷ 0 ∷ 0 ∷ l) (simp append-assoc))
+          (ap (λ (l : List ℕ). (l ++ copiesG (length gs) u ts) ++ copies u gs) e ∙ ap (λ (l : List ℕ). k ∷ 0 ∷ 0 ∷ 0 ∷ l) (simp append-assoc))
+          st (need + 1) depth (h .depth-is) (omega (arith, h .need-is)) (omega arith) p (h .stack) refl
+
+      at-branch : (c a b : Term) (ts : List Term) (gs : List (List Term)) → Stage s u o at lim t out st i from need depth pos ((branch c a b ∷ ts) ∷ gs) done → Stage s u o at lim t out st (i + 1) from (need + 2) depth pos ((c ∷ (a ∷ (b ∷ ts))) ∷ gs) done
+      at-branch c a b ts gs h =
           let p = h .plains in
-          go-on 5 0 ((app a b ∷ ts) ∷ gs) ((a ∷ (b ∷ ts)) ∷ gs) h
-          (ap (λ (l : List ℕ). 5 ∷ 0 ∷ 0 ∷ 0 ∷ l) (simp append-assoc))
-          (ap (λ (l : List ℕ). 5 ∷ 0 ∷ 0 ∷ 0 ∷ l) (simp append-assoc))
-          st (need + 1) depth (h .depth-is) (omega (arith, h .need-is)) (omega arith)
-          ((p .0 .0 .0, (p .0 .0 .1, p .0 .1)), p .1) (h .stack) refl
+          go-on 10 0 ((branch c a b ∷ ts) ∷ gs) ((c ∷ (a ∷ (b ∷ ts))) ∷ gs) h
+          (ap (λ (l : List ℕ). 10 ∷ 0 ∷ 0 ∷ 0 ∷ l) (simp append-assoc))
+          (ap (λ (l : List ℕ). 10 ∷ 0 ∷ 0 ∷ 0 ∷ l) (simp append-assoc))
+          st (need + 2) depth (h .depth-is) (omega (arith, h .need-is)) (omega arith)
+          ((p .0 .0 .0, (p .0 .0 .1, (p .0 .0 .2, p .0 .1))), p .1) (h .stack) refl
 
       -- A leaf that is copied as it is.
       at-leaf : (k n : ℕ) (x : Term) (ts : List Term) (gs : List (List Term)) → encode x ≡ record8 k n [] → copied (length gs) u x ≡ record8 k n [] → Stage s u o at lim t out st i from need depth pos ((x ∷ ts) ∷ gs) done
@@ -332,25 +355,52 @@ module _ {s u o : List ℕ} {at lim : ℕ} {t : Term} where
       lam-is st′ q k (app x y) ts gs a = absurd (omega (arith, kind-is (app x y) ts gs a))
       lam-is st′ q k (callEvent n x y) ts gs a = absurd (a .plains .0 .0)
       lam-is st′ q k (emit n x y) ts gs a = absurd (a .plains .0 .0)
+      lam-is st′ q k (sum x y) ts gs a = absurd (omega (arith, kind-is (sum x y) ts gs a))
+      lam-is st′ q k (branch z x y) ts gs a = absurd (omega (arith, kind-is (branch z x y) ts gs a))
 
       -- An abstraction.
       pub of-lam : kindAt s i ≡ 4 → (st′ : List ℕ) → st′ ≡ set st depth (need - 1) → Going s u o at lim t out st′ (i + 1) from need (depth + 1) pos
       of-lam k st′ q = split (Going s u o at lim t out st′ (i + 1) from need (depth + 1) pos) l (lam-is st′ q k)
 
-      app-is : kindAt s i ≡ 5 → (x : Term) (ts : List Term) (gs : List (List Term)) → Now ((x ∷ ts) ∷ gs) → Going s u o at lim t out st (i + 1) from (need + 1) depth pos
-      app-is k (var n) ts gs a = absurd (omega (arith, kind-is (var n) ts gs a))
-      app-is k (fun n) ts gs a = absurd (omega (arith, kind-is (fun n) ts gs a))
-      app-is k (con n) ts gs a = absurd (omega (arith, kind-is (con n) ts gs a))
-      app-is k (lam n b) ts gs a = absurd (omega (arith, kind-is (lam n b) ts gs a))
-      app-is k (app x y) ts gs a = record { groups = (x ∷ (y ∷ ts)) ∷ gs; done = h .done; here = at-app x y ts gs a; first = tt }
-      app-is k (callEvent n x y) ts gs a = absurd (a .plains .0 .0)
-      app-is k (emit n x y) ts gs a = absurd (a .plains .0 .0)
+      module _ (m : ℕ) (h5 : 5 ≤ kindAt s i) (e : m ≡ more (kindAt s i)) where
+        more-is : (x : Term) (ts : List Term) (gs : List (List Term)) → Now ((x ∷ ts) ∷ gs) → Going s u o at lim t out st (i + 1) from (need + m) depth pos
+        more-is (var n) ts gs a = absurd (omega (arith, kind-is (var n) ts gs a))
+        more-is (fun n) ts gs a = absurd (omega (arith, kind-is (fun n) ts gs a))
+        more-is (con n) ts gs a = absurd (omega (arith, kind-is (con n) ts gs a))
+        more-is (lam n b) ts gs a = absurd (omega (arith, kind-is (lam n b) ts gs a))
+        more-is (app x y) ts gs a =
+            let p = a .plains in
+            rw (e ∙ ap more (kind-is (app x y) ts gs a))
+            (record { groups = (x ∷ (y ∷ ts)) ∷ gs; done = h .done; here = at-pair 5 app x y ts gs refl refl ((p .0 .0 .0, (p .0 .0 .1, p .0 .1)), p .1) a; first = tt })
+        more-is (callEvent n x y) ts gs a = absurd (a .plains .0 .0)
+        more-is (emit n x y) ts gs a = absurd (a .plains .0 .0)
+        more-is (sum x y) ts gs a =
+            let p = a .plains in
+            rw (e ∙ ap more (kind-is (sum x y) ts gs a))
+            (record { groups = (x ∷ (y ∷ ts)) ∷ gs; done = h .done; here = at-pair 9 sum x y ts gs refl refl ((p .0 .0 .0, (p .0 .0 .1, p .0 .1)), p .1) a; first = tt })
+        more-is (branch z x y) ts gs a =
+            rw (e ∙ ap more (kind-is (branch z x y) ts gs a)) (record { groups = (z ∷ (x ∷ (y ∷ ts))) ∷ gs; done = h .done; here = at-branch z x y ts gs a; first = tt })
 
-      -- An application.
-      pub of-app : kindAt s i ≡ 5 → Going s u o at lim t out st (i + 1) from (need + 1) depth pos
-      of-app k = split (Going s u o at lim t out st (i + 1) from (need + 1) depth pos) l (app-is k)
+        -- An application, a sum or a branch.
+        pub of-more : Going s u o at lim t out st (i + 1) from (need + m) depth pos
+        of-more = split (Going s u o at lim t out st (i + 1) from (need + m) depth pos) l more-is
 
-      module _ (k4 : kindAt s i ≡ 4 → ⊥) (k5 : kindAt s i ≡ 5 → ⊥) (w : recordNumber s i ≡ depth → kindAt s i ≡ 1 → ⊥) (d : ℕ) (q : d ≡ closed st (need - 1) depth) where
+      -- A kind that is none of a leaf's, an abstraction's and an application's is a sum's or a branch's.
+      later-is : 6 ≤ kindAt s i → (x : Term) (ts : List Term) (gs : List (List Term)) → Now ((x ∷ ts) ∷ gs) → (9 ≤ kindAt s i) × (kindAt s i ≤ 10)
+      later-is k (var n) ts gs a = absurd (omega (arith, kind-is (var n) ts gs a))
+      later-is k (fun n) ts gs a = absurd (omega (arith, kind-is (fun n) ts gs a))
+      later-is k (con n) ts gs a = absurd (omega (arith, kind-is (con n) ts gs a))
+      later-is k (lam n b) ts gs a = absurd (omega (arith, kind-is (lam n b) ts gs a))
+      later-is k (app x y) ts gs a = absurd (omega (arith, kind-is (app x y) ts gs a))
+      later-is k (callEvent n x y) ts gs a = absurd (a .plains .0 .0)
+      later-is k (emit n x y) ts gs a = absurd (a .plains .0 .0)
+      later-is k (sum x y) ts gs a = (omega (arith, kind-is (sum x y) ts gs a), omega (arith, kind-is (sum x y) ts gs a))
+      later-is k (branch z x y) ts gs a = (omega (arith, kind-is (branch z x y) ts gs a), omega (arith, kind-is (branch z x y) ts gs a))
+
+      pub later : 6 ≤ kindAt s i → (9 ≤ kindAt s i) × (kindAt s i ≤ 10)
+      later k = split ((9 ≤ kindAt s i) × (kindAt s i ≤ 10)) l (later-is k)
+
+      module _ (k : kindAt s i ≤ 3) (w : recordNumber s i ≡ depth → kindAt s i ≡ 1 → ⊥) (d : ℕ) (q : d ≡ closed st (need - 1) depth) where
         kept-is : (x : Term) (ts : List Term) (gs : List (List Term)) → Now ((x ∷ ts) ∷ gs) → Going s u o at lim t out st (i + 1) from (need - 1) d pos
         kept-is (var n) ts gs a =
             let m = number-is n ts gs a in
@@ -358,10 +408,12 @@ module _ {s u o : List ℕ} {at lim : ℕ} {t : Term} where
             shut out st (i + 1) from (need - 1) depth pos ts gs (h .done) d (at-leaf 1 n (var n) ts gs refl (rw (ne-eqb n (length gs) z)) a) q
         kept-is (fun n) ts gs a = shut out st (i + 1) from (need - 1) depth pos ts gs (h .done) d (at-leaf 2 n (fun n) ts gs refl refl a) q
         kept-is (con n) ts gs a = shut out st (i + 1) from (need - 1) depth pos ts gs (h .done) d (at-leaf 3 n (con n) ts gs refl refl a) q
-        kept-is (lam n b) ts gs a = absurd (k4 (kind-is (lam n b) ts gs a))
-        kept-is (app x y) ts gs a = absurd (k5 (kind-is (app x y) ts gs a))
+        kept-is (lam n b) ts gs a = absurd (omega (arith, kind-is (lam n b) ts gs a))
+        kept-is (app x y) ts gs a = absurd (omega (arith, kind-is (app x y) ts gs a))
         kept-is (callEvent n x y) ts gs a = absurd (a .plains .0 .0)
         kept-is (emit n x y) ts gs a = absurd (a .plains .0 .0)
+        kept-is (sum x y) ts gs a = absurd (omega (arith, kind-is (sum x y) ts gs a))
+        kept-is (branch z x y) ts gs a = absurd (omega (arith, kind-is (branch z x y) ts gs a))
 
         -- A leaf that is no use.
         pub of-kept : Going s u o at lim t out st (i + 1) from (need - 1) d pos
@@ -379,6 +431,8 @@ module _ {s u o : List ℕ} {at lim : ℕ} {t : Term} where
             by (app x y) ts gs a = absurd (omega (arith, kind-is (app x y) ts gs a))
             by (callEvent n x y) ts gs a = absurd (a .plains .0 .0)
             by (emit n x y) ts gs a = absurd (a .plains .0 .0)
+            by (sum x y) ts gs a = absurd (omega (arith, kind-is (sum x y) ts gs a))
+            by (branch z x y) ts gs a = absurd (omega (arith, kind-is (branch z x y) ts gs a))
 
         -- A use.
         pub of-use : (out′ : List ℕ) (q : ℕ) → out′ ≡ put out pos (piece s u from i) → q ≡ pos + length (piece s u from i) → q ≤ lim

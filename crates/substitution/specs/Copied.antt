@@ -7,7 +7,7 @@ use lib.Dec.{eqb}
 use lib.ListN.{length, drop}
 use Rattle.words.specs.Put.{put}
 use Rattle.calculus.specs.Term.{Term, records, Bare}
-use Rattle.calculus.specs.Term.Term.{var, fun, con, lam, app, callEvent, emit}
+use Rattle.calculus.specs.Term.Term.{var, fun, con, lam, app, callEvent, emit, sum, branch}
 use Rattle.terms.specs.Record.{record8}
 use Rattle.terms.specs.Encode.{encode}
 use Rattle.substitution.specs.declared.Substituted.{Substituted}
@@ -22,6 +22,8 @@ copied d u (lam n b) = record8 4 n (copied (suc d) u b)
 copied d u (app a b) = record8 5 0 (copied d u a ++ copied d u b)
 copied d u (callEvent n a r) = record8 6 n (copied d u a ++ copied d u r)
 copied d u (emit n a r) = record8 7 n (copied d u a ++ copied d u r)
+copied d u (sum a b) = record8 9 0 (copied d u a ++ copied d u b)
+copied d u (branch c a b) = record8 10 0 (copied d u c ++ (copied d u a ++ copied d u b))
 
 -- The bytes of t lie at a record: a term of Λcall, of at most 1,024 records.
 pub record Lies (s : List ℕ) (at : ℕ) (t : Term) : Type 0 where

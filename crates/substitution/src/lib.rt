@@ -112,27 +112,26 @@ pub fn substitute(
     let mut depth: usize = 0;
     let mut pos: usize = 0;
     while 0 < need {
-        // Up to the next use.
+        // Up to the next use. Much of a run's time goes here, so the kinds are asked for by how often they stand in a script.
         while 0 < need {
             let kind = s[8 * i];
-            match kind {
-                4 => {
-                    st[depth] = (need - 1) as u16;
-                    depth += 1;
-                    i += 1;
+            if kind == 5 {
+                need += 1;
+                i += 1;
+            } else if kind <= 3 {
+                if is_use(kind, terms::number(s, i), depth) {
+                    break;
                 }
-                5 => {
-                    need += 1;
-                    i += 1;
-                }
-                _ => {
-                    if is_use(kind, terms::number(s, i), depth) {
-                        break;
-                    }
-                    need -= 1;
-                    depth = close_ended(st, need, depth);
-                    i += 1;
-                }
+                need -= 1;
+                depth = close_ended(st, need, depth);
+                i += 1;
+            } else if kind == 4 {
+                st[depth] = (need - 1) as u16;
+                depth += 1;
+                i += 1;
+            } else {
+                need += terms::further(kind);
+                i += 1;
             }
         }
         if 0 < need {

@@ -1,6 +1,7 @@
 -- The bytes of a term are read back as that term, and the bytes that are read are those of the term. Assumes nothing.
-use mathlib.Core.Bool.{true}
+use mathlib.Core.Bool.{Bool, true}
 use mathlib.Core.List.{List, [], _∷_, _++_, append-assoc, append-nil}
+use mathlib.Core.Logic.{inl, inr, ⊎-elim}
 use mathlib.Core.Path.{_≡_, refl, sym, ap, ap₂, _∙_}
 use Prim.Native.Nat.{ℕ, suc, _+_, _-_, _*_, _^_, _<_, _≤_}
 use native.Mathlib.Omega.{arith}
@@ -9,7 +10,7 @@ use lib.Seq.{take-at, drop-at, drop-drop, getD-drop}
 use borrow.Author.Tests.{eqb-true}
 use Rattle.words.specs.Bytes.{number, bytes, part, AllBytes, bytes-length, number-bytes, number-below, bytes-part, part-below, part-length, part-cons, part-append}
 use Rattle.calculus.specs.Term.{Term, records}
-use Rattle.calculus.specs.Term.Term.{var, fun, con, lam, app, callEvent, emit}
+use Rattle.calculus.specs.Term.Term.{var, fun, con, lam, app, callEvent, emit, sum, branch}
 use Rattle.terms.specs.Record.{count, kindAt, spareAt, recordNumber, record8, inRange}
 use Rattle.terms.specs.Read.{readAt, termOf, termAt}
 use Rattle.terms.specs.Read.Read.{got}
@@ -36,6 +37,10 @@ encode-length (lam n b) = record-length 4 n (encode b) ∙ omega (arith, encode-
 encode-length (app a b) = pair-length 5 0 (encode a) (encode b) a b (encode-length a) (encode-length b)
 encode-length (callEvent n a r) = pair-length 6 n (encode a) (encode r) a r (encode-length a) (encode-length r)
 encode-length (emit n a r) = pair-length 7 n (encode a) (encode r) a r (encode-length a) (encode-length r)
+encode-length (sum a b) = pair-length 9 0 (encode a) (encode b) a b (encode-length a) (encode-length b)
+encode-length (branch c a b) =
+    record-length 10 0 (encode c ++ (encode a ++ encode b))
+    ∙ omega (arith, length-append (encode c) (encode a ++ encode b), length-append (encode a) (encode b), encode-length c, encode-length a, encode-length b)
 
 -- ---- a record, from the bytes that lie there
 
@@ -124,6 +129,25 @@ encode-stands s i (emit n a r) rest h e = (
   encode-stands s (i + 1) a (encode r ++ rest) (h .1) (pair-first s i 7 n a r rest e),
   encode-stands s (i + 1 + records a) r rest (h .2) (pair-second s i 7 n a r rest e),
 )
+encode-stands s i (sum a b) rest h e =
+    let p = pair-at s i 9 0 a b rest e (omega arith) in (
+      record { inside = p .inside; kind = p .kind; number = refl },
+      encode-stands s (i + 1) a (encode b ++ rest) (h .0) (pair-first s i 9 0 a b rest e),
+      encode-stands s (i + 1 + records a) b rest (h .1) (pair-second s i 9 0 a b rest e),
+    )
+encode-stands s i (branch c a b) rest h e =
+    let q : drop (8 * i) s ≡ record8 10 0 (encode c ++ (encode a ++ (encode b ++ rest))) = e ∙ simp append-assoc in
+    let p = record-at s i 10 0 (encode c ++ (encode a ++ (encode b ++ rest))) q (omega arith) in
+    let f : drop (8 * (i + 1)) s ≡ encode c ++ (encode a ++ (encode b ++ rest)) = record-rest s i 10 0 (encode c ++ (encode a ++ (encode b ++ rest))) q in
+    let g : drop (8 * (i + 1 + records c)) s ≡ encode a ++ (encode b ++ rest) =
+    drop-more s (8 * (i + 1)) (8 * records c) (8 * (i + 1 + records c)) (encode c ++ (encode a ++ (encode b ++ rest))) f (omega arith) ∙ drop-at (encode c) (encode a ++ (encode b ++ rest)) (8 * records c) (encode-length c) in
+    let k : drop (8 * (i + 1 + records c + records a)) s ≡ encode b ++ rest =
+    drop-more s (8 * (i + 1 + records c)) (8 * records a) (8 * (i + 1 + records c + records a)) (encode a ++ (encode b ++ rest)) g (omega arith) ∙ drop-at (encode a) (encode b ++ rest) (8 * records a) (encode-length a) in (
+      record { inside = p .inside; kind = p .kind; number = refl },
+      encode-stands s (i + 1) c (encode a ++ (encode b ++ rest)) (h .0) f,
+      encode-stands s (i + 1 + records c) a (encode b ++ rest) (h .1) g,
+      encode-stands s (i + 1 + records c + records a) b rest (h .2) k,
+    )
 
 -- A term whose bytes lie at a record is read there.
 pub read-encode-at : (s : List ℕ) (i : ℕ) (t : Term) (rest : List ℕ) → Fits t → drop (8 * i) s ≡ encode t ++ rest → readAt s i ≡ got t (i + records t)
@@ -167,6 +191,8 @@ module _ (s : List ℕ) (b : AllBytes s) where
   stands-fits i (app a r) h = (stands-fits (i + 1) a (h .1), stands-fits (i + 1 + records a) r (h .2))
   stands-fits i (callEvent n a r) h = (at-fits i 6 n (h .0), stands-fits (i + 1) a (h .1), stands-fits (i + 1 + records a) r (h .2))
   stands-fits i (emit n a r) h = (at-fits i 7 n (h .0), stands-fits (i + 1) a (h .1), stands-fits (i + 1 + records a) r (h .2))
+  stands-fits i (sum a r) h = (stands-fits (i + 1) a (h .1), stands-fits (i + 1 + records a) r (h .2))
+  stands-fits i (branch c a r) h = (stands-fits (i + 1) c (h .1), stands-fits (i + 1 + records c) a (h .2), stands-fits (i + 1 + records c + records a) r (h .3))
 
   -- The numbers of a term that is read fit their bytes.
   pub read-fits : (i : ℕ) (t : Term) (j : ℕ) → readAt s i ≡ got t j → Fits t
@@ -220,7 +246,7 @@ module _ (s : List ℕ) (b : AllBytes s) where
       (stands-part (i + 1) t (h .1) (λ k p q. c k (omega arith) (omega arith)))
   stands-part i (app a r) h c =
       let w = c i (omega arith) (omega arith) in
-      let g : At s i 5 0 = record { inside = h .0 .inside; kind = h .0 .kind; number = w .idle (h .0 .kind) } in
+      let g : At s i 5 0 = record { inside = h .0 .inside; kind = h .0 .kind; number = w .idle (inl (h .0 .kind)) } in
       pair-part i 5 0 g (w .spare) (records a) (records r) (encode a) (encode r)
       (stands-part (i + 1) a (h .1) (λ k p q. c k (omega arith) (omega arith)))
       (stands-part (i + 1 + records a) r (h .2) (λ k p q. c k (omega arith) (omega arith)))
@@ -232,6 +258,23 @@ module _ (s : List ℕ) (b : AllBytes s) where
       pair-part i 7 n (h .0) (c i (omega arith) (omega arith) .spare) (records a) (records r) (encode a) (encode r)
       (stands-part (i + 1) a (h .1) (λ k p q. c k (omega arith) (omega arith)))
       (stands-part (i + 1 + records a) r (h .2) (λ k p q. c k (omega arith) (omega arith)))
+  stands-part i (sum a r) h c =
+      let w = c i (omega arith) (omega arith) in
+      let g : At s i 9 0 = record { inside = h .0 .inside; kind = h .0 .kind; number = w .idle (inr (inl (h .0 .kind))) } in
+      pair-part i 9 0 g (w .spare) (records a) (records r) (encode a) (encode r)
+      (stands-part (i + 1) a (h .1) (λ k p q. c k (omega arith) (omega arith)))
+      (stands-part (i + 1 + records a) r (h .2) (λ k p q. c k (omega arith) (omega arith)))
+  stands-part i (branch d a r) h c =
+      let w = c i (omega arith) (omega arith) in
+      let g : At s i 10 0 = record { inside = h .0 .inside; kind = h .0 .kind; number = w .idle (inr (inr (h .0 .kind))) } in
+      let x = stands-part (i + 1 + records d) a (h .2) (λ k p q. c k (omega arith) (omega arith)) in
+      let y = stands-part (i + 1 + records d + records a) r (h .3) (λ k p q. c k (omega arith) (omega arith)) in
+      let q : 8 * (records a + records r) ≡ 8 * records a + 8 * records r = omega arith in
+      let p : 8 * (i + 1 + records d) + 8 * records a ≡ 8 * (i + 1 + records d + records a) = omega arith in
+      pair-part i 10 0 g (w .spare) (records d) (records a + records r) (encode d) (encode a ++ encode r)
+      (stands-part (i + 1) d (h .1) (λ k p q. c k (omega arith) (omega arith)))
+      (ap (part s (8 * (i + 1 + records d))) q ∙ part-append s (8 * (i + 1 + records d)) (8 * records a) (8 * records r)
+      ∙ ap₂ (λ (x y : List ℕ). x ++ y) x (ap (λ (z : ℕ). part s z (8 * records r)) p ∙ y))
 
   -- A term that is read from clean records lies there as its encoding.
   pub read-part : (i : ℕ) (t : Term) (j : ℕ) → readAt s i ≡ got t j → ((k : ℕ) → i ≤ k → k < j → Clean s k) → part s (8 * i) (8 * (j - i)) ≡ encode t
@@ -244,4 +287,10 @@ module _ (s : List ℕ) (b : AllBytes s) where
 pub range-clean : (s : List ℕ) (i : ℕ) → spareAt s i ≡ 0 → inRange (kindAt s i) (recordNumber s i) ≡ true → Clean s i
 unfolding inRange
 range-clean s i z r =
-    record { spare = z; idle = λ e. eqb-true (recordNumber s i) 0 (sym (ap (λ (k : ℕ). inRange k (recordNumber s i)) e) ∙ r) }
+    record {
+      spare = z;
+      idle = λ k. eqb-true (recordNumber s i) 0 (sym (⊎-elim (ap within) (⊎-elim (ap within) (ap within)) k) ∙ r);
+    }
+  where
+    within : ℕ → Bool
+    within k = inRange k (recordNumber s i)

@@ -10,7 +10,7 @@ use native.Mathlib.Numerals.{add-one}
 use lib.Dec.{ltb}
 use borrow.Author.Tests.{lt-ltb, le-ltb}
 use Rattle.calculus.specs.Term.{Term, records, Scoped}
-use Rattle.calculus.specs.Term.Term.{var, fun, con, lam, app, callEvent, emit}
+use Rattle.calculus.specs.Term.Term.{var, fun, con, lam, app, callEvent, emit, sum, branch}
 use Rattle.terms.specs.Record.{kindAt}
 use Rattle.terms.specs.Read.{leafTerm, pairTerm}
 use Rattle.terms.specs.Walk.{firstOf, loose}
@@ -73,12 +73,16 @@ pair-loose d i (suc (suc (suc zero))) n a b = refl
 pair-loose d i (suc (suc (suc (suc zero)))) n a b = refl
 pair-loose d i (suc (suc (suc (suc (suc zero))))) n a b = refl
 pair-loose d i (suc (suc (suc (suc (suc (suc zero)))))) n a b = refl
-pair-loose d i (suc (suc (suc (suc (suc (suc (suc k))))))) n a b = refl
+pair-loose d i (suc (suc (suc (suc (suc (suc (suc zero))))))) n a b = refl
+pair-loose d i (suc (suc (suc (suc (suc (suc (suc (suc k)))))))) n a b = refl
 
 -- ---- where it lies
 
 first-bounds : (i m j m′ e : ℕ) → i + 1 ≤ m → m ≤ j → j ≤ m′ → m′ ≤ e → (i ≤ firstOf m j m′) × (firstOf m j m′ ≤ e)
 first-bounds i m j m′ e p q r t = first-cases (λ (x : ℕ). (i ≤ x) × (x ≤ e)) m j m′ (λ h. omega arith) (λ h. omega arith)
+
+first-within : (i m j m′ e : ℕ) → i ≤ m → m ≤ j → j ≤ m′ → m′ ≤ e → (i ≤ firstOf m j m′) × (firstOf m j m′ ≤ e)
+first-within i m j m′ e p q r t = first-cases (λ (x : ℕ). (i ≤ x) × (x ≤ e)) m j m′ (λ h. omega arith) (λ h. omega arith)
 
 -- It lies in the term or right after it.
 pub loose-bounds : (d i : ℕ) (t : Term) → (i ≤ loose d i t) × (loose d i t ≤ i + records t)
@@ -99,6 +103,16 @@ loose-bounds d i (emit n a b) =
     let h = loose-bounds d (i + 1) a in
     let g = loose-bounds d (i + 1 + records a) b in
     first-bounds i (loose d (i + 1) a) (i + 1 + records a) (loose d (i + 1 + records a) b) (i + suc (records a + records b)) (h .0) (h .1) (g .0) (omega arith)
+loose-bounds d i (sum a b) =
+    let h = loose-bounds d (i + 1) a in
+    let g = loose-bounds d (i + 1 + records a) b in
+    first-bounds i (loose d (i + 1) a) (i + 1 + records a) (loose d (i + 1 + records a) b) (i + suc (records a + records b)) (h .0) (h .1) (g .0) (omega arith)
+loose-bounds d i (branch c a b) =
+    let h = loose-bounds d (i + 1) c in
+    let g = loose-bounds d (i + 1 + records c) a in
+    let k = loose-bounds d (i + 1 + records c + records a) b in
+    let m = first-within (i + 1 + records c) (loose d (i + 1 + records c) a) (i + 1 + records c + records a) (loose d (i + 1 + records c + records a) b) (i + suc (records c + (records a + records b))) (g .0) (g .1) (k .0) (omega arith) in
+    first-bounds i (loose d (i + 1) c) (i + 1 + records c) (firstOf (loose d (i + 1 + records c) a) (i + 1 + records c + records a) (loose d (i + 1 + records c + records a) b)) (i + suc (records c + (records a + records b))) (h .0) (h .1) (m .0) (m .1)
 
 -- ---- none, exactly where the term is scoped
 
@@ -117,6 +131,24 @@ whole-both : (d i : ℕ) (a b : Term) → loose d (i + 1) a ≡ i + 1 + records 
 whole-both d i a b p q =
     first-later (loose d (i + 1) a) (i + 1 + records a) (loose d (i + 1 + records a) b) (omega arith) ∙ q ∙ omega arith
 
+-- all three terms of a branch are passed
+three-whole : (d i : ℕ) (c a b : Term) → firstOf (loose d (i + 1) c) (i + 1 + records c) (firstOf (loose d (i + 1 + records c) a) (i + 1 + records c + records a) (loose d (i + 1 + records c + records a) b)) ≡ i + suc (records c + (records a + records b))
+    → (loose d (i + 1) c ≡ i + 1 + records c) × (loose d (i + 1 + records c) a ≡ i + 1 + records c + records a) × (loose d (i + 1 + records c + records a) b ≡ i + 1 + records c + records a + records b)
+three-whole d i c a b e =
+    let h = loose-bounds d (i + 1) c in
+    let g = loose-bounds d (i + 1 + records c) a in
+    let E : ℕ = i + 1 + records c + records a + records b in
+    let u = first-whole (loose d (i + 1) c) (i + 1 + records c) (firstOf (loose d (i + 1 + records c) a) (i + 1 + records c + records a) (loose d (i + 1 + records c + records a) b)) E (h .1) (omega arith) (e ∙ omega arith) in
+    let w = first-whole (loose d (i + 1 + records c) a) (i + 1 + records c + records a) (loose d (i + 1 + records c + records a) b) E (g .1) (omega arith) (u .1) in
+    (u .0, w .0, w .1)
+
+whole-three : (d i : ℕ) (c a b : Term) → loose d (i + 1) c ≡ i + 1 + records c → loose d (i + 1 + records c) a ≡ i + 1 + records c + records a → loose d (i + 1 + records c + records a) b ≡ i + 1 + records c + records a + records b
+    → firstOf (loose d (i + 1) c) (i + 1 + records c) (firstOf (loose d (i + 1 + records c) a) (i + 1 + records c + records a) (loose d (i + 1 + records c + records a) b)) ≡ i + suc (records c + (records a + records b))
+whole-three d i c a b p q r =
+    first-later (loose d (i + 1) c) (i + 1 + records c) (firstOf (loose d (i + 1 + records c) a) (i + 1 + records c + records a) (loose d (i + 1 + records c + records a) b)) (omega arith)
+    ∙ first-later (loose d (i + 1 + records c) a) (i + 1 + records c + records a) (loose d (i + 1 + records c + records a) b) (omega arith)
+    ∙ r ∙ omega arith
+
 -- A scoped term has no loose variable.
 pub scoped-loose : (d i : ℕ) (t : Term) → Scoped d t → loose d i t ≡ i + records t
 unfolding loose records
@@ -127,6 +159,8 @@ scoped-loose d i (lam n b) h = scoped-loose (d + 1) (i + 1) b (rw (add-one d) h)
 scoped-loose d i (app a b) h = whole-both d i a b (scoped-loose d (i + 1) a (h .0)) (scoped-loose d (i + 1 + records a) b (h .1))
 scoped-loose d i (callEvent n a b) h = whole-both d i a b (scoped-loose d (i + 1) a (h .0)) (scoped-loose d (i + 1 + records a) b (h .1))
 scoped-loose d i (emit n a b) h = whole-both d i a b (scoped-loose d (i + 1) a (h .0)) (scoped-loose d (i + 1 + records a) b (h .1))
+scoped-loose d i (sum a b) h = whole-both d i a b (scoped-loose d (i + 1) a (h .0)) (scoped-loose d (i + 1 + records a) b (h .1))
+scoped-loose d i (branch c a b) h = whole-three d i c a b (scoped-loose d (i + 1) c (h .0)) (scoped-loose d (i + 1 + records c) a (h .1)) (scoped-loose d (i + 1 + records c + records a) b (h .2))
 
 -- A term with none is scoped.
 pub loose-scoped : (d i : ℕ) (t : Term) → loose d i t ≡ i + records t → Scoped d t
@@ -138,6 +172,8 @@ loose-scoped d i (lam n b) e = rw (add-one d) at (loose-scoped (d + 1) (i + 1) b
 loose-scoped d i (app a b) e = let h = both-whole d i a b e in (loose-scoped d (i + 1) a (h .0), loose-scoped d (i + 1 + records a) b (h .1))
 loose-scoped d i (callEvent n a b) e = let h = both-whole d i a b e in (loose-scoped d (i + 1) a (h .0), loose-scoped d (i + 1 + records a) b (h .1))
 loose-scoped d i (emit n a b) e = let h = both-whole d i a b e in (loose-scoped d (i + 1) a (h .0), loose-scoped d (i + 1 + records a) b (h .1))
+loose-scoped d i (sum a b) e = let h = both-whole d i a b e in (loose-scoped d (i + 1) a (h .0), loose-scoped d (i + 1 + records a) b (h .1))
+loose-scoped d i (branch c a b) e = let h = three-whole d i c a b e in (loose-scoped d (i + 1) c (h .0), loose-scoped d (i + 1 + records c) a (h .1), loose-scoped d (i + 1 + records c + records a) b (h .2))
 
 -- No loose variable, exactly where the term is scoped.
 pub loose-exact : (d i : ℕ) (t : Term) → (loose d i t ≡ i + records t) ↔ Scoped d t
@@ -167,3 +203,11 @@ loose-kind s d i (callEvent n a b) h l =
     pair-kind s d i a b (loose-kind s d (i + 1) a (h .1)) (loose-kind s d (i + 1 + records a) b (h .2)) (i + suc (records a + records b)) (omega arith) l
 loose-kind s d i (emit n a b) h l =
     pair-kind s d i a b (loose-kind s d (i + 1) a (h .1)) (loose-kind s d (i + 1 + records a) b (h .2)) (i + suc (records a + records b)) (omega arith) l
+loose-kind s d i (sum a b) h l =
+    pair-kind s d i a b (loose-kind s d (i + 1) a (h .1)) (loose-kind s d (i + 1 + records a) b (h .2)) (i + suc (records a + records b)) (omega arith) l
+loose-kind s d i (branch c a b) h l =
+    first-cases (λ (x : ℕ). x < i + suc (records c + (records a + records b)) → kindAt s x ≡ 1) (loose d (i + 1) c) (i + 1 + records c)
+    (firstOf (loose d (i + 1 + records c) a) (i + 1 + records c + records a) (loose d (i + 1 + records c + records a) b))
+    (λ p q. loose-kind s d (i + 1) c (h .1) p)
+    (λ p q. first-cases (λ (x : ℕ). x < i + suc (records c + (records a + records b)) → kindAt s x ≡ 1) (loose d (i + 1 + records c) a) (i + 1 + records c + records a) (loose d (i + 1 + records c + records a) b)
+    (λ u w. loose-kind s d (i + 1 + records c) a (h .2) u) (λ u w. loose-kind s d (i + 1 + records c + records a) b (h .3) (omega arith)) q) l

@@ -33,13 +33,19 @@ unfolding inRange
 range-function k n h g =
     rw (ne-eqb k 1 (λ e. omega arith), le-leb 2 k (omega arith), lt-leb k 3 (omega arith), ne-eqb k 4 (λ e. omega arith), ne-eqb k 5 (λ e. omega arith), le-leb 6 k h, le-leb k 8 g)
 
+-- A sum or a branch.
+pub range-sum : (k n : ℕ) → 9 ≤ k → k ≤ 10 → inRange k n ≡ eqb n 0
+unfolding inRange
+range-sum k n h g =
+    rw (ne-eqb k 1 (λ e. omega arith), le-leb 2 k (omega arith), lt-leb k 3 (omega arith), ne-eqb k 4 (λ e. omega arith), ne-eqb k 5 (λ e. omega arith), le-leb 6 k (omega arith), lt-leb k 8 (omega arith), le-leb 9 k h, le-leb k 10 g)
+
 -- Kind 0 has no range.
 pub range-zero : (k n : ℕ) → k ≡ 0 → inRange k n ≡ false
 unfolding inRange
 range-zero k n e = rw e
 
--- Nor has a kind above 8.
-pub range-high : (k n : ℕ) → 9 ≤ k → inRange k n ≡ false
+-- Nor has a kind above 10.
+pub range-high : (k n : ℕ) → 11 ≤ k → inRange k n ≡ false
 unfolding inRange
 range-high k n h =
-    rw (ne-eqb k 1 (λ e. omega arith), le-leb 2 k (omega arith), lt-leb k 3 (omega arith), ne-eqb k 4 (λ e. omega arith), ne-eqb k 5 (λ e. omega arith), le-leb 6 k (omega arith), lt-leb k 8 h)
+    rw (ne-eqb k 1 (λ e. omega arith), le-leb 2 k (omega arith), lt-leb k 3 (omega arith), ne-eqb k 4 (λ e. omega arith), ne-eqb k 5 (λ e. omega arith), le-leb 6 k (omega arith), lt-leb k 8 (omega arith), le-leb 9 k (omega arith), lt-leb k 10 h)

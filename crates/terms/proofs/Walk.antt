@@ -3,14 +3,14 @@ use mathlib.Core.List.{List}
 use mathlib.Core.Path.{_≡_, refl, sym, ap, ap₂, _∙_}
 use Prim.Native.Nat.{ℕ, _+_, _<_, _≤_}
 use native.Mathlib.Omega.{arith}
-use Rattle.calculus.specs.Term.{Term}
+use Rattle.calculus.specs.Term.{Term, records}
 use Rattle.terms.specs.Record.{count, kindAt, recordNumber, arityOf}
 use Rattle.terms.specs.Read.{Read, underOne, readAt}
 use Rattle.terms.specs.Read.Read.{got, stuck}
-use Rattle.terms.specs.Read.Laws.{arity-past, arity-in, Beyond, beyond, read-past, read-none, read-leaf, read-one, read-two}
+use Rattle.terms.specs.Read.Laws.{arity-past, arity-in, Beyond, beyond, read-past, read-none, read-leaf, read-one, read-two, read-three}
 use Rattle.terms.specs.Walk.{firstOf, loose, walkedOf, walked, valueOnly, walkedValue}
 use Rattle.terms.specs.declared.Arity.{Arity}
-use Rattle.terms.specs.declared.Arity.the-variants.{NoTerm, Leaf, One, Two}
+use Rattle.terms.specs.declared.Arity.the-variants.{NoTerm, Leaf, One, Two, Three}
 use Rattle.terms.specs.declared.Walked.{Walked}
 use Rattle.terms.specs.declared.Walked.the-variants.{Whole, Stopped}
 use Rattle.terms.proofs.Stands.{read-stands, read-within}
@@ -30,11 +30,12 @@ unfolding loose
 body d i n (got t j) = refl
 body d i n (stuck j) = refl
 
-no-pair : (a : Arity) (i : ℕ) (w : Walked) → (a ≡ Two → ⊥) → valueOnly a i w ≡ w
-no-pair NoTerm i w n = refl
-no-pair Leaf i w n = refl
-no-pair One i w n = refl
-no-pair Two i w n = absurd (n refl)
+no-pair : (a : Arity) (i : ℕ) (w : Walked) → (a ≡ Two → ⊥) → (a ≡ Three → ⊥) → valueOnly a i w ≡ w
+no-pair NoTerm i w n m = refl
+no-pair Leaf i w n m = refl
+no-pair One i w n m = refl
+no-pair Two i w n m = absurd (n refl)
+no-pair Three i w n m = absurd (m refl)
 
 module _ (s : List ℕ) (d i : ℕ) where
   -- A walk that is whole passed a term, whose first loose variable it tells.
@@ -66,12 +67,16 @@ module _ (s : List ℕ) (d i : ℕ) where
 
   module _ (h : i < count s) where
     -- A term that is no pair is walked as a value.
-    pub walked-value : (arityOf (kindAt s i) ≡ Two → ⊥) → walkedValue s d i ≡ walked s d i
-    walked-value n = rw (arity-in s i h) (no-pair (arityOf (kindAt s i)) i (walked s d i) n)
+    pub walked-value : (arityOf (kindAt s i) ≡ Two → ⊥) → (arityOf (kindAt s i) ≡ Three → ⊥) → walkedValue s d i ≡ walked s d i
+    walked-value n m = rw (arity-in s i h) (no-pair (arityOf (kindAt s i)) i (walked s d i) n m)
 
     -- A value does not begin with a pair's record.
     pub value-two : arityOf (kindAt s i) ≡ Two → walkedValue s d i ≡ Stopped i
     value-two e = rw (arity-in s i h, e)
+
+    -- Nor with a branch's.
+    pub value-three : arityOf (kindAt s i) ≡ Three → walkedValue s d i ≡ Stopped i
+    value-three e = rw (arity-in s i h, e)
 
     -- Nor with a record that begins no term.
     pub value-none : arityOf (kindAt s i) ≡ NoTerm → walkedValue s d i ≡ Stopped i
@@ -128,3 +133,47 @@ module _ (s : List ℕ) (d i : ℕ) where
     -- A whole pair with none in its first term.
     pub two-later : arityOf (kindAt s i) ≡ Two → (m l j l′ : ℕ) → walked s d (i + 1) ≡ Whole m l → walked s d m ≡ Whole j l′ → m ≤ l → walked s d i ≡ Whole j l′
     two-later e m l j l′ w v p = two-whole e m l j l′ w v ∙ ap (Whole j) (first-later l m l′ p)
+
+    -- A branch whose first term stops, …
+    pub three-stopped : arityOf (kindAt s i) ≡ Three → (j : ℕ) → walked s d (i + 1) ≡ Stopped j → walked s d i ≡ Stopped j
+    three-stopped e j w = rw (read-three s i h e, ended d (i + 1) j (readAt s (i + 1)) w)
+
+    -- … whose second does, …
+    pub three-stopped-second : arityOf (kindAt s i) ≡ Three → (m l j : ℕ) → walked s d (i + 1) ≡ Whole m l → walked s d m ≡ Stopped j → walked s d i ≡ Stopped j
+    three-stopped-second e m l j w v =
+        let f = found d (i + 1) m l (readAt s (i + 1)) w in
+        rw (read-three s i h e, f .1, ended d m j (readAt s m) v)
+
+    -- … whose third does.
+    pub three-stopped-third : arityOf (kindAt s i) ≡ Three → (m l n l′ j : ℕ) → walked s d (i + 1) ≡ Whole m l → walked s d m ≡ Whole n l′ → walked s d n ≡ Stopped j → walked s d i ≡ Stopped j
+    three-stopped-third e m l n l′ j w v u =
+        let f = found d (i + 1) m l (readAt s (i + 1)) w in
+        let g = found d m n l′ (readAt s m) v in
+        rw (read-three s i h e, f .1, g .1, ended d n j (readAt s n) u)
+
+    -- A whole branch has the first loose variable of its three terms.
+    pub three-whole : arityOf (kindAt s i) ≡ Three → (m l n l′ j l″ : ℕ) → walked s d (i + 1) ≡ Whole m l → walked s d m ≡ Whole n l′ → walked s d n ≡ Whole j l″ → walked s d i ≡ Whole j (firstOf l m (firstOf l′ n l″))
+    unfolding loose
+    three-whole e m l n l′ j l″ w v u =
+        let f = found d (i + 1) m l (readAt s (i + 1)) w in
+        let g = found d m n l′ (readAt s m) v in
+        let k = found d n j l″ (readAt s n) u in
+        let q : m ≡ i + 1 + records (f .0) = read-stands s (i + 1) (f .0) m (f .1) .1 in
+        let q′ : n ≡ i + 1 + records (f .0) + records (g .0) = read-stands s m (g .0) n (g .1) .1 ∙ ap (λ (x : ℕ). x + records (g .0)) q in
+        let z : firstOf (loose d (i + 1) (f .0)) m (firstOf (loose d m (g .0)) n (loose d n (k .0))) ≡ firstOf l m (firstOf l′ n l″) =
+        rw (f .2, g .2, k .2) in
+        rw (read-three s i h e, f .1, g .1, k .1)
+        (ap (Whole j)
+        (ap₂ (λ (x y : ℕ). firstOf (loose d (i + 1) (f .0)) x (firstOf (loose d x (g .0)) y (loose d y (k .0)))) (sym q) (sym q′) ∙ z))
+
+    -- A whole branch with a loose variable in its first term, …
+    pub three-first : arityOf (kindAt s i) ≡ Three → (m l n l′ j l″ : ℕ) → walked s d (i + 1) ≡ Whole m l → walked s d m ≡ Whole n l′ → walked s d n ≡ Whole j l″ → l < m → walked s d i ≡ Whole j l
+    three-first e m l n l′ j l″ w v u p = three-whole e m l n l′ j l″ w v u ∙ ap (Whole j) (first-here l m (firstOf l′ n l″) p)
+
+    -- … with the first in its second, …
+    pub three-second : arityOf (kindAt s i) ≡ Three → (m l n l′ j l″ : ℕ) → walked s d (i + 1) ≡ Whole m l → walked s d m ≡ Whole n l′ → walked s d n ≡ Whole j l″ → m ≤ l → l′ < n → walked s d i ≡ Whole j l′
+    three-second e m l n l′ j l″ w v u p q = three-whole e m l n l′ j l″ w v u ∙ ap (Whole j) (first-later l m (firstOf l′ n l″) p ∙ first-here l′ n l″ q)
+
+    -- … with none in these.
+    pub three-third : arityOf (kindAt s i) ≡ Three → (m l n l′ j l″ : ℕ) → walked s d (i + 1) ≡ Whole m l → walked s d m ≡ Whole n l′ → walked s d n ≡ Whole j l″ → m ≤ l → n ≤ l′ → walked s d i ≡ Whole j l″
+    three-third e m l n l′ j l″ w v u p q = three-whole e m l n l′ j l″ w v u ∙ ap (Whole j) (first-later l m (firstOf l′ n l″) p ∙ first-later l′ n l″ q)

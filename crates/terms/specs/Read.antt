@@ -4,10 +4,10 @@ mod Examples
 use mathlib.Core.List.{List}
 use Prim.Native.Nat.{ℕ, zero, suc, _+_, _-_}
 use Rattle.calculus.specs.Term.{Term}
-use Rattle.calculus.specs.Term.Term.{var, fun, con, lam, app, callEvent, emit}
+use Rattle.calculus.specs.Term.Term.{var, fun, con, lam, app, callEvent, emit, sum, branch}
 use Rattle.terms.specs.Record.{count, kindAt, recordNumber, arityAt}
 use Rattle.terms.specs.declared.Arity.{Arity}
-use Rattle.terms.specs.declared.Arity.the-variants.{NoTerm, Leaf, One, Two}
+use Rattle.terms.specs.declared.Arity.the-variants.{NoTerm, Leaf, One, Two, Three}
 
 -- A record of kind 1, 2 or 3 and its number.
 abbrev pub leafTerm : ℕ → ℕ → Term
@@ -16,7 +16,7 @@ leafTerm (suc zero) n = var n
 leafTerm (suc (suc zero)) n = fun n
 leafTerm (suc (suc (suc k))) n = con n
 
--- A record of kind 5, 6 or 7, its number and the two terms that follow.
+-- A record of kind 5, 6, 7 or 9, its number and the two terms that follow.
 abbrev pub pairTerm : ℕ → ℕ → Term → Term → Term
 pairTerm zero n a b = app a b
 pairTerm (suc zero) n a b = app a b
@@ -25,7 +25,8 @@ pairTerm (suc (suc (suc zero))) n a b = app a b
 pairTerm (suc (suc (suc (suc zero)))) n a b = app a b
 pairTerm (suc (suc (suc (suc (suc zero))))) n a b = app a b
 pairTerm (suc (suc (suc (suc (suc (suc zero)))))) n a b = callEvent n a b
-pairTerm (suc (suc (suc (suc (suc (suc (suc k))))))) n a b = emit n a b
+pairTerm (suc (suc (suc (suc (suc (suc (suc zero))))))) n a b = emit n a b
+pairTerm (suc (suc (suc (suc (suc (suc (suc (suc k)))))))) n a b = sum a b
 
 -- A term and the record after it, or the record at which no term can go on.
 pub data Read : Type 0 where
@@ -44,12 +45,18 @@ abbrev pub andThen : (Term → Term → Term) → Read → (ℕ → Read) → Re
 andThen f (got a j) go = underTwo (f a) (go j)
 andThen f (stuck j) go = stuck j
 
+-- The first of the three terms of a branch, and then the other two.
+abbrev pub thenTwo : Read → (ℕ → Read) → Read
+thenTwo (got c j) go = andThen (branch c) (go j) go
+thenTwo (stuck j) go = stuck j
+
 -- One record, with what stands further on.
 abbrev pub readStep : Arity → List ℕ → ℕ → (ℕ → Read) → Read
 readStep NoTerm s i go = stuck i
 readStep Leaf s i go = got (leafTerm (kindAt s i) (recordNumber s i)) (i + 1)
 readStep One s i go = underOne (recordNumber s i) (go (i + 1))
 readStep Two s i go = andThen (pairTerm (kindAt s i) (recordNumber s i)) (go (i + 1)) go
+readStep Three s i go = thenTwo (go (i + 1)) go
 
 readF : ℕ → List ℕ → ℕ → Read
 readF zero s i = stuck i

@@ -6,7 +6,7 @@ use lib.Dec.{eqb, leb, ltb}
 use lib.ListN.{length, getD}
 use Rattle.words.specs.Bytes.{bytes, numberAt}
 use Rattle.terms.specs.declared.Arity.{Arity}
-use Rattle.terms.specs.declared.Arity.the-variants.{NoTerm, Leaf, One, Two}
+use Rattle.terms.specs.declared.Arity.the-variants.{NoTerm, Leaf, One, Two, Three}
 
 -- How many whole records a file has; a part of a record at the end is none.
 abbrev pub count : List ℕ → ℕ
@@ -26,19 +26,20 @@ recordNumber s i = numberAt 4 s (8 * i + 4)
 abbrev pub record8 : ℕ → ℕ → List ℕ → List ℕ
 record8 k n rest = k ∷ 0 ∷ 0 ∷ 0 ∷ (bytes 4 n ++ rest)
 
--- How many terms follow a record that begins a term: kinds 1 to 3 none, 4 one, 5 to 7 two. No term begins with another kind.
+-- How many terms follow a record that begins a term: kinds 1 to 3 none, 4 one, 5 to 7 and 9 two, 10 three. No term begins with another kind.
 unfoldable pub arityOf : ℕ → Arity
-arityOf k = cond (leb 1 k && leb k 3) Leaf (cond (eqb k 4) One (cond (leb 5 k && leb k 7) Two NoTerm))
+arityOf k = cond (leb 1 k && leb k 3) Leaf (cond (eqb k 4) One (cond (leb 5 k && leb k 7) Two (cond (eqb k 9) Two (cond (eqb k 10) Three NoTerm))))
 
 -- The same of a record of the file; past its end no term begins.
 unfoldable pub arityAt : List ℕ → ℕ → Arity
 arityAt s i = cond (ltb i (count s)) (arityOf (kindAt s i)) NoTerm
 
--- "The record kinds are 1 to 8, each with its own range of numbers".
+-- "The record kinds are 1 to 8, each with its own range of numbers", and 9 and 10 "have number 0".
 unfoldable pub inRange : ℕ → ℕ → Bool
 inRange k n =
     cond (eqb k 1) (leb n 1023)
     (cond (leb 2 k && leb k 3) true
     (cond (eqb k 4) (leb n 65535)
     (cond (eqb k 5) (eqb n 0)
-    (leb 6 k && leb k 8))))
+    (cond (leb 6 k && leb k 8) true
+    ((leb 9 k && leb k 10) && eqb n 0)))))

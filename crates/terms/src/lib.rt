@@ -10,6 +10,7 @@ pub enum Arity {
     Leaf,
     One,
     Two,
+    Three,
 }
 
 // The record after a term, or that no whole term begins there.
@@ -24,7 +25,7 @@ pub enum Walked {
     Stopped(u32),
 }
 
-// The arity of a kind.
+// The arity of a kind. Kinds 9 and 10 as a range compile to comparisons, as single kinds to a table of jumps, which is slower.
 pub fn arity_of(kind: u8) -> Arity
     ensures { λ r. ⌜ r ≡ arityOf kind ⌝ }
 {
@@ -32,6 +33,12 @@ pub fn arity_of(kind: u8) -> Arity
         1..=3 => Arity::Leaf,
         4 => Arity::One,
         5..=7 => Arity::Two,
+        9..=10 => {
+            if kind == 9 {
+                return Arity::Two;
+            }
+            Arity::Three
+        }
         _ => Arity::NoTerm,
     }
 }
@@ -46,6 +53,7 @@ pub fn in_range(kind: u8, number: u32) -> bool
         4 => number <= 65535,
         5 => number == 0,
         6..=8 => true,
+        9..=10 => number == 0,
         _ => false,
     }
 }
@@ -58,7 +66,17 @@ pub fn number(s: &[u8], i: usize) -> u32
     words::get_u32(s, 8 * i + 4)
 }
 
-// Passes over the term at a record: a count of the terms still wanted, so that a script of any length needs no stack.
+// How many terms more are to come after the record of a sum, 9, or a branch, 10.
+pub fn further(kind: u8) -> usize
+    requires { ⌜ 9 ≤ kind ⌝ }
+    requires { ⌜ kind ≤ 10 ⌝ }
+    ensures { λ r. ⌜ r ≡ kind - 8 ⌝ }
+{
+    (kind - 8) as usize
+}
+
+// Passes over the term at a record: a count of the terms still wanted, so that a script of any length needs no stack. A step of a run does this,
+// so it goes by the kinds themselves: the rare ones, 9 and 10, are asked for last.
 pub fn pass_term(s: &[u8], at: usize) -> Passed
     ensures { λ r. ⌜ r ≡ passTerm (now (s .entry)) at ⌝ }
 {
@@ -69,16 +87,20 @@ pub fn pass_term(s: &[u8], at: usize) -> Passed
         if n <= i {
             return Passed::Nothing;
         }
-        match arity_of(s[8 * i]) {
-            Arity::NoTerm => {
-                return Passed::Nothing;
-            }
-            Arity::Leaf => {
+        let kind = s[8 * i];
+        match kind {
+            1..=3 => {
                 wanted -= 1;
             }
-            Arity::One => {}
-            Arity::Two => {
+            4 => {}
+            5..=7 => {
                 wanted += 1;
+            }
+            9..=10 => {
+                wanted += further(kind);
+            }
+            _ => {
+                return Passed::Nothing;
             }
         }
         i += 1;
@@ -110,6 +132,24 @@ pub fn walk_term(s: &[u8], at: usize, depth: u32) -> Walked
             },
             Walked::Stopped(place) => Walked::Stopped(place),
         },
+        Arity::Three => match walk_term(s, at + 1, depth) {
+            Walked::Whole(mid, loose) => match walk_term(s, mid as usize, depth) {
+                Walked::Whole(last, middle) => match walk_term(s, last as usize, depth) {
+                    Walked::Whole(end, later) => {
+                        if loose < mid {
+                            return Walked::Whole(end, loose);
+                        }
+                        if middle < last {
+                            return Walked::Whole(end, middle);
+                        }
+                        Walked::Whole(end, later)
+                    }
+                    Walked::Stopped(place) => Walked::Stopped(place),
+                },
+                Walked::Stopped(place) => Walked::Stopped(place),
+            },
+            Walked::Stopped(place) => Walked::Stopped(place),
+        },
         _ => walk_value(s, at, depth),
     }
 }
@@ -129,6 +169,7 @@ pub fn walk_value(s: &[u8], at: usize, depth: u32) -> Walked
         Arity::Leaf => leaf(s, at, depth),
         Arity::One => walk_term(s, at + 1, depth + 1),
         Arity::Two => Walked::Stopped(at as u32),
+        Arity::Three => Walked::Stopped(at as u32),
         Arity::NoTerm => Walked::Stopped(at as u32),
     }
 }

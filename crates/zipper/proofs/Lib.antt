@@ -2,6 +2,9 @@ pub mod Context
 pub mod Parts
 pub mod Moves
 pub mod Whole
+pub mod Leaving
 pub mod Search
 pub mod Ends
+pub mod Landing
 pub mod Redex
+pub mod Sums

@@ -9,57 +9,61 @@ use lib.Seq.{drop-at, getD-set-same, getD-set-other}
 use Rattle.words.specs.Bytes.{bytes, part}
 use Rattle.words.specs.Put.{put, put-length, put-head, put-drop}
 use Rattle.calculus.specs.Term.{Term, isValue, records}
-use Rattle.calculus.specs.Term.Term.{app}
-use Rattle.terms.specs.Record.{record8}
+use Rattle.terms.specs.Record.{count, kindAt, record8}
 use Rattle.terms.specs.Encode.{encode, Fits}
 use Rattle.terms.proofs.Stands.{Stands}
-use Rattle.terms.proofs.Encode.{record-length, encode-length, encode-stands}
-use Rattle.zipper.specs.Frame.{Frame}
-use Rattle.zipper.specs.Frame.Frame.{toCome, done}
-use Rattle.zipper.specs.Layout.{lefts, rights, leftSize, Zip}
-use Rattle.zipper.proofs.Context.{plug-part}
-use Rattle.zipper.proofs.Parts.{lefts-length, stack-kept, drop-past, part-there, app-rest, bounds}
+use Rattle.terms.proofs.Encode.{record-length, record-inside, record-kind, record-rest, encode-length, encode-stands}
+use Rattle.zipper.specs.Frame.{Pair, join, pairKind, Frame, kindOf, fill, Done}
+use Rattle.zipper.specs.Frame.Pair.{applies, adds}
+use Rattle.zipper.specs.Frame.Frame.{toCome, done, choosing}
+use Rattle.zipper.specs.Layout.{between, gone, lefts, rights, leftSize, side, Zip}
+use Rattle.zipper.proofs.Context.{fits-shared, plug-part}
+use Rattle.zipper.proofs.Parts.{lefts-length, stack-kept, drop-past, part-there, fill-rest, bounds}
 
--- The number 5 in eight bytes is an application's record.
-app-bytes : bytes 8 5 ≡ record8 5 0 []
+-- A frame's kind in eight bytes is its record.
+kind-bytes : (f : Frame) → bytes 8 (kindOf f) ≡ record8 (kindOf f) 0 []
 unfolding bytes
-app-bytes = refl
+kind-bytes (toCome applies b) = refl
+kind-bytes (toCome adds b) = refl
+kind-bytes (done applies a) = refl
+kind-bytes (done adds a) = refl
+kind-bytes (choosing a b) = refl
 
 module _ {e fs : List ℕ} {l r n : ℕ} {K : List Frame} where
-  -- At an application: into its function, with its argument to come.
-  pub enter : (a b : Term) → Zip e fs l r n K (app a b) → (e′ fs′ : List ℕ) → e′ ≡ put e (8 * l) (bytes 8 5) → fs′ ≡ set fs n (2 * l)
-      → Zip e′ fs′ (l + 1) (r + 1) (n + 1) (toCome b ∷ K) a
-  enter a b h e′ fs′ p q =
-      let k = bounds h in
-      let v : List ℕ = record8 5 0 [] in
-      let lv : length v ≡ 8 = record-length 5 0 [] in
-      let p′ : e′ ≡ put e (8 * l) v = p ∙ ap (put e (8 * l)) app-bytes in
+  -- At a filled frame: into its first part.
+  pub enter : (g : Frame) (t : Term) → Done g → between g ≡ [] → gone g ≡ 0 → side g ≡ 0 → Zip e fs l r n K (fill g t) → (k : ℕ) → k ≡ kindOf g
+      → (e′ fs′ : List ℕ) → e′ ≡ put e (8 * l) (bytes 8 k) → fs′ ≡ set fs n (2 * l) → Zip e′ fs′ (l + 1) (r + 1) (n + 1) (g ∷ K) t
+  enter g t d o z c h k y e′ fs′ p q =
+      let b = bounds h in
+      let v : List ℕ = record8 (kindOf g) 0 [] in
+      let lv : length v ≡ 8 = record-length (kindOf g) 0 [] in
+      let p′ : e′ ≡ put e (8 * l) v = p ∙ ap (λ (x : ℕ). put e (8 * l) (bytes 8 x)) y ∙ ap (put e (8 * l)) (kind-bytes g) in
       let f : 8 * l + length v ≤ length e = omega (arith, h .wide, h .order) in
       let m : 8 * (l + 1) ≡ 8 * l + length v = omega arith in
       let i : length K ≡ n = sym (h .deep) in
-      let z = h .sized in
-      let g : n < length fs = omega (arith, h .high) in
+      let s = h .sized in
+      let j : n < length fs = omega (arith, h .high) in
       record {
-        left = rw (p′, m) (put-head e (8 * l) v f ∙ ap (λ (x : List ℕ). x ++ v) (h .left));
-        right = rw p′ (put-drop e (8 * l) v f (8 * (r + 1)) (omega (arith, h .order)) ∙ app-rest e r a b (rights K) (h .right));
+        left = rw (p′, m) (put-head e (8 * l) v f ∙ ap (λ (x : List ℕ). x ++ v) (h .left) ∙ ap (λ (x : List ℕ). lefts K ++ record8 (kindOf g) 0 x) (sym o));
+        right = rw p′ (put-drop e (8 * l) v f (8 * (r + 1)) (omega (arith, h .order)) ∙ fill-rest e r g t (rights K) o (h .right));
         sized = omega arith;
         order = omega (arith, h .order);
         deep = omega arith;
         stack = (
-          rw (q, i) (getD-set-same fs n (2 * l) 0 g ∙ omega arith),
-          stack-kept fs fs′ K (λ x c. rw q (getD-set-other fs n x (2 * l) 0 (λ y. omega arith))) (h .stack),
+          rw (q, i) (getD-set-same fs n (2 * l) 0 j ∙ omega arith),
+          stack-kept fs fs′ K (λ x u. rw q (getD-set-other fs n x (2 * l) 0 (λ y. omega arith))) (h .stack),
         );
-        fine = h .fine;
+        fine = (d, h .fine);
         sound = h .sound;
         wide = rw p′ (put-length e (8 * l) v f ∙ h .wide);
         high = rw q (rw (length-set fs n (2 * l)) (h .high));
       }
 
-  -- At a value whose application's argument is to come: on to the argument.
-  pub turn : (b v : Term) → Zip e fs l r n (toCome b ∷ K) v → isValue v ≡ true → (end : ℕ) → end ≡ r + records v → (top : ℕ) → top ≡ getD fs (n - 1) 0
+  -- At a value whose pair's second part is to come: on to it.
+  pub turn : (w : Pair) (b v : Term) → Zip e fs l r n (toCome w b ∷ K) v → isValue v ≡ true → (end : ℕ) → end ≡ r + records v → (top : ℕ) → top ≡ getD fs (n - 1) 0
       → (e′ fs′ : List ℕ) → e′ ≡ put e (8 * l) (part e (8 * r) (8 * (end - r))) → fs′ ≡ set fs (n - 1) (top + 1)
-      → Zip e′ fs′ (l + (end - r)) end n (done v ∷ K) b
-  turn b v h w end z top t e′ fs′ p q =
+      → Zip e′ fs′ (l + (end - r)) end n (done w v ∷ K) b
+  turn o b v h w end z top t e′ fs′ p q =
       let k = bounds h in
       let lv : length (encode v) ≡ 8 * records v = encode-length v in
       let d : n ≡ length K + 1 = omega (arith, h .deep) in
@@ -82,24 +86,35 @@ module _ {e fs : List ℕ} {l r n : ℕ} {K : List Frame} where
           rw q′ (getD-set-same fs (length K) (top + 1) 0 g ∙ omega arith),
           stack-kept fs fs′ K (λ x c. rw q′ (getD-set-other fs (length K) x (top + 1) 0 (λ y. omega arith))) (h .stack .1),
         );
-        fine = (w, h .fine);
+        fine = (w, h .fine .1);
         sound = h .sound;
         wide = rw p′ (put-length e (8 * l) (encode v) f ∙ h .wide);
         high = rw q′ (rw (length-set fs (length K) (top + 1)) (h .high));
       }
 
-  -- The function that is done lies after its application.
-  pub function-lies : (a v : Term) → Zip e fs l r n (done a ∷ K) v → drop (8 * (leftSize K + 1)) e ≡ encode a ++ drop (8 * l) e
-  function-lies a v h =
-      let s : e ≡ (lefts K ++ record8 5 0 []) ++ (encode a ++ drop (8 * l) e) =
+  -- The innermost frame's record, and what is done after it.
+  pub frame-lies : (f : Frame) (t : Term) → Zip e fs l r n (f ∷ K) t → drop (8 * leftSize K) e ≡ record8 (kindOf f) 0 (between f ++ drop (8 * l) e)
+  frame-lies f t h =
+      let s : e ≡ lefts K ++ record8 (kindOf f) 0 (between f ++ drop (8 * l) e) =
       sym (take-append-drop (8 * l) e) ∙ ap (λ (x : List ℕ). x ++ drop (8 * l) e) (h .left) ∙ simp append-assoc in
-      ap (drop (8 * (leftSize K + 1))) s
-      ∙ drop-at (lefts K ++ record8 5 0 []) (encode a ++ drop (8 * l) e) (8 * (leftSize K + 1)) (omega (arith, length-append (lefts K) (record8 5 0 []), record-length 5 0 [], lefts-length K))
+      ap (drop (8 * leftSize K)) s ∙ drop-at (lefts K) (record8 (kindOf f) 0 (between f ++ drop (8 * l) e)) (8 * leftSize K) (lefts-length K)
 
-  -- Its numbers fit.
-  pub function-fits : (a v : Term) → Zip e fs l r n (done a ∷ K) v → Fits a
-  function-fits a v h = plug-part Fits (λ x y z. z) K (app a v) (h .sound .fits) .0
+  -- Its kind is the frame's.
+  pub frame-kind : (f : Frame) (t : Term) → Zip e fs l r n (f ∷ K) t → kindAt e (leftSize K) ≡ kindOf f
+  frame-kind f t h = record-kind e (leftSize K) (kindOf f) 0 (between f ++ drop (8 * l) e) (frame-lies f t h)
 
-  -- It stands there.
-  pub function-stands : (a v : Term) → Zip e fs l r n (done a ∷ K) v → Stands e (leftSize K + 1) a
-  function-stands a v h = encode-stands e (leftSize K + 1) a (drop (8 * l) e) (function-fits a v h) (function-lies a v h)
+  pub frame-inside : (f : Frame) (t : Term) → Zip e fs l r n (f ∷ K) t → leftSize K < count e
+  frame-inside f t h = record-inside e (leftSize K) (kindOf f) 0 (between f ++ drop (8 * l) e) (frame-lies f t h)
+
+  module _ (w : Pair) (a v : Term) (h : Zip e fs l r n (done w a ∷ K) v) where
+    -- The part that is done lies after its frame's record.
+    pub first-lies : drop (8 * (leftSize K + 1)) e ≡ encode a ++ drop (8 * l) e
+    first-lies = record-rest e (leftSize K) (pairKind w) 0 (encode a ++ drop (8 * l) e) (frame-lies (done w a) v h)
+
+    -- Its numbers fit.
+    pub first-fits : Fits a
+    first-fits = fits-shared .two w a v (plug-part fits-shared K (join w a v) (h .sound .fits)) .0
+
+    -- It stands there.
+    pub first-stands : Stands e (leftSize K + 1) a
+    first-stands = encode-stands e (leftSize K + 1) a (drop (8 * l) e) first-fits first-lies

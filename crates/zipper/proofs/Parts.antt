@@ -7,36 +7,51 @@ use lib.ListN.{length, take, drop, getD, length-append, length-drop}
 use lib.Seq.{take-at, drop-at, drop-drop}
 use Rattle.words.specs.Bytes.{part}
 use Rattle.calculus.specs.Term.{Term, view, records, Bare}
-use Rattle.calculus.specs.Term.Term.{var, fun, con, lam, app, callEvent, emit}
+use Rattle.calculus.specs.Term.Term.{var, fun, con, lam, app, callEvent, emit, sum, branch}
 use Rattle.terms.specs.Record.{count, kindAt, record8}
 use Rattle.terms.specs.Encode.{encode, Fits}
 use Rattle.terms.proofs.Stands.{Stands}
 use Rattle.terms.proofs.Encode.{record-length, encode-length, record-rest, encode-stands}
-use Rattle.zipper.specs.Frame.{Frame, plug}
-use Rattle.zipper.specs.Frame.Frame.{toCome, done}
-use Rattle.zipper.specs.Layout.{lefts, rights, leftSize, Stack, Zip}
-use Rattle.zipper.proofs.Context.{plug-part}
+use Rattle.zipper.specs.Frame.{Pair, join, pairKind, Frame, kindOf, fill, plug}
+use Rattle.zipper.specs.Frame.Pair.{applies, adds}
+use Rattle.zipper.specs.Frame.Frame.{toCome, done, choosing}
+use Rattle.zipper.specs.Layout.{between, gone, after, lefts, rights, leftSize, Stack, Zip}
+use Rattle.zipper.proofs.Context.{bare-shared, fits-shared, plug-part}
 
 -- ---- frames
+
+between-length : (f : Frame) → length (between f) ≡ 8 * gone f
+between-length (toCome w b) = refl
+between-length (done w a) = encode-length a
+between-length (choosing a b) = refl
 
 -- Eight bytes for each record before the focus.
 pub lefts-length : (K : List Frame) → length (lefts K) ≡ 8 * leftSize K
 lefts-length [] = refl
-lefts-length (toCome b ∷ K) = omega (arith, length-append (lefts K) (record8 5 0 []), record-length 5 0 [], lefts-length K)
-lefts-length (done a ∷ K) =
-    omega (arith, length-append (lefts K) (record8 5 0 (encode a)), record-length 5 0 (encode a), lefts-length K, encode-length a)
+lefts-length (f ∷ K) =
+    omega (arith, length-append (lefts K) (record8 (kindOf f) 0 (between f)), record-length (kindOf f) 0 (between f), lefts-length K, between-length f)
+
+-- A pair's bytes.
+encode-pair : (w : Pair) (a b : Term) → encode (join w a b) ≡ record8 (pairKind w) 0 (encode a ++ encode b)
+encode-pair applies a b = refl
+encode-pair adds a b = refl
+
+-- The bytes of a filled frame, and of what follows it.
+pub encode-fill : (f : Frame) (t : Term) (rest : List ℕ) → encode (fill f t) ++ rest ≡ record8 (kindOf f) 0 (between f ++ (encode t ++ after f rest))
+encode-fill (toCome w b) t rest = rw (encode-pair w t b) (simp append-assoc)
+encode-fill (done w a) t rest = rw (encode-pair w a t) (simp append-assoc)
+encode-fill (choosing a b) t rest = simp append-assoc
 
 -- The bytes of the whole are those before the focus, the focus's and those after it.
 pub encode-plug : (K : List Frame) (t : Term) → encode (plug K t) ≡ lefts K ++ (encode t ++ rights K)
 encode-plug [] t = sym (append-nil (encode t))
-encode-plug (toCome b ∷ K) t = encode-plug K (app t b) ∙ simp append-assoc
-encode-plug (done a ∷ K) t = encode-plug K (app a t) ∙ simp append-assoc
+encode-plug (f ∷ K) t =
+    encode-plug K (fill f t) ∙ ap (λ (x : List ℕ). lefts K ++ x) (encode-fill f t (rights K)) ∙ simp append-assoc
 
 -- Each frame has a record before the focus.
 pub few : (K : List Frame) → length K ≤ leftSize K
 few [] = omega arith
-few (toCome b ∷ K) = omega (arith, few K)
-few (done a ∷ K) = omega (arith, few K)
+few (f ∷ K) = omega (arith, few K)
 
 -- A term has a record.
 pub records-some : (t : Term) → 0 < records t
@@ -48,6 +63,8 @@ records-some (lam n b) = omega arith
 records-some (app a b) = omega arith
 records-some (callEvent n a r) = omega arith
 records-some (emit n a r) = omega arith
+records-some (sum a b) = omega arith
+records-some (branch c a b) = omega arith
 
 -- The records of the whole.
 pub plug-records : (K : List Frame) (t : Term) → 8 * records (plug K t) ≡ 8 * leftSize K + (8 * records t + length (rights K))
@@ -78,9 +95,11 @@ pub part-there : (s : List ℕ) (b n : ℕ) (x y : List ℕ) → drop b s ≡ x 
 unfolding part
 part-there s b n x y e q = ap (take n) e ∙ take-at x y n q
 
--- An application's two terms, after its record.
-pub app-rest : (s : List ℕ) (i : ℕ) (a b : Term) (rest : List ℕ) → drop (8 * i) s ≡ encode (app a b) ++ rest → drop (8 * (i + 1)) s ≡ encode a ++ (encode b ++ rest)
-app-rest s i a b rest e = record-rest s i 5 0 (encode a ++ (encode b ++ rest)) (e ∙ simp append-assoc)
+-- What lies after the record of a filled frame whose focus is its first part.
+pub fill-rest : (s : List ℕ) (i : ℕ) (f : Frame) (t : Term) (rest : List ℕ) → between f ≡ [] → drop (8 * i) s ≡ encode (fill f t) ++ rest
+    → drop (8 * (i + 1)) s ≡ encode t ++ after f rest
+fill-rest s i f t rest n e =
+    record-rest s i (kindOf f) 0 (between f ++ (encode t ++ after f rest)) (e ∙ encode-fill f t rest) ∙ ap (λ (x : List ℕ). x ++ (encode t ++ after f rest)) n
 
 -- The first record of a term that stands.
 pub first-kind : (s : List ℕ) (i : ℕ) (t : Term) → Stands s i t → kindAt s i ≡ view t .kind
@@ -92,6 +111,8 @@ first-kind s i (lam n b) h = h .0 .kind
 first-kind s i (app a b) h = h .0 .kind
 first-kind s i (callEvent n a r) h = h .0 .kind
 first-kind s i (emit n a r) h = h .0 .kind
+first-kind s i (sum a b) h = h .0 .kind
+first-kind s i (branch c a b) h = h .0 .kind
 
 pub first-inside : (s : List ℕ) (i : ℕ) (t : Term) → Stands s i t → i < count s
 first-inside s i (var n) h = h .inside
@@ -101,6 +122,8 @@ first-inside s i (lam n b) h = h .0 .inside
 first-inside s i (app a b) h = h .0 .inside
 first-inside s i (callEvent n a r) h = h .0 .inside
 first-inside s i (emit n a r) h = h .0 .inside
+first-inside s i (sum a b) h = h .0 .inside
+first-inside s i (branch c a b) h = h .0 .inside
 
 -- ---- a zipper
 
@@ -114,11 +137,11 @@ pub record Bounds (l r n m : ℕ) : Type 0 where
 module _ {e fs : List ℕ} {l r n : ℕ} {K : List Frame} {t : Term} (h : Zip e fs l r n K t) where
   -- The focus is bare.
   pub focus-bare : Bare t
-  focus-bare = plug-part Bare (λ a b x. x) K t (h .sound .bare)
+  focus-bare = plug-part bare-shared K t (h .sound .bare)
 
   -- The focus's numbers fit.
   pub focus-fits : Fits t
-  focus-fits = plug-part Fits (λ a b x. x) K t (h .sound .fits)
+  focus-fits = plug-part fits-shared K t (h .sound .fits)
 
   -- The focus stands at record r.
   pub focus-stands : Stands e r t

@@ -15,7 +15,7 @@ use Rattle.terms.proofs.Stands.{Stands, stands-read}
 use Rattle.terms.proofs.Encode.{read-encode}
 use Rattle.zipper.specs.Frame.{Frame, plug}
 use Rattle.zipper.specs.Layout.{Zip}
-use Rattle.zipper.specs.Zipper.{wholeIn, endOf, endAt, ZipOf, Flat, Poised, SoughtIs}
+use Rattle.zipper.specs.Zipper.{wholeIn, endOf, endAt, Whole, ZipOf, Flat, Poised, SoughtIs}
 use Rattle.zipper.specs.declared.Sought.{Sought}
 use Rattle.zipper.specs.declared.Sought.the-variants.{Value, Stuck, Redex}
 use Rattle.zipper.proofs.Parts.{bounds, together}
@@ -24,6 +24,11 @@ use Rattle.zipper.proofs.Parts.{bounds, together}
 pub end-there : (s : List ℕ) (i : ℕ) (t : Term) → Stands s i t → endAt s i ≡ i + records t
 unfolding endAt
 end-there s i t h = ap (λ r. endOf i (passedOf r)) (stands-read s i t h)
+
+-- It is a whole one.
+pub whole-there : (s : List ℕ) (i : ℕ) (t : Term) → Stands s i t → Whole s i
+unfolding endAt
+whole-there s i t h = rw (stands-read s i t h)
 
 -- What passing over the term says of its end.
 module _ (s : List ℕ) (i : ℕ) {w : Passed} (e : w ≡ passTerm s i) where

@@ -1,85 +1,84 @@
 -- `machine::fits` meets its contract: the room is what the limit leaves. Assumes nothing.
 use native.Mathlib.Omega.{arith}
-use Rattle.machine.proofs.Contract.{numbers, ready-source, fits-room, fits-not}
+use denote.Ref.{now}
+use native.Mathlib.Omega.{arith}
+use Rattle.machine.proofs.Contract.{ready-inside, numbers, ready-source, fits-room, fits-not, fits-other}
 use borrow.Author.Needs.{needs}
 use Rattle.machine.proofs.fits.Statement.{statement}
 use Rattle.machine.proofs.fits.Tie as tie
-use Rattle.machine.proofs.fits.Reads as reads
-use Rattle.machine.proofs.fits.Lts as lts
-use Rattle.machine.proofs.reduce.Reads as reduce-reads
-use Rattle.zipper.proofs.end_of.Reads as end-of-reads
 
--- src/lib.rt:168:9
+mul-if1 : tie.Need-mul-if1
+mul-if1 c = let i = ready-inside (c .before .before .before .before .before .pre .0) in omega arith
+
+shared-slice-read-if1 : tie.Need-shared-slice-read-if1
+shared-slice-read-if1 c = let i = ready-inside (c .before .before .before .before .before .before .pre .0) in omega arith
+
+returns : tie.Need-returns
+returns c = fits-other (c .before .before .before .before .before .before .before .pre .0) (c .if1 .taken)
+
 end-of-requires : tie.Need-end-of-requires
 end-of-requires c κs = search needs
 
--- src/lib.rt:169:34
 sub-most : tie.Need-sub-most
-sub-most c = let f = numbers ((c .before .before .before .before .before .before .pre) .0) ((c .before .before .before .before .before .before .pre) .1 .0) _ ((c .end-of) .ensures) in omega arith
+sub-most c =
+    let f = numbers (c .before .before .before .before .before .before .before .before .pre .0) (c .before .if1 .left) (c .before .before .before .before .before .before .before .before .pre .1 .0) _ (c .end-of .ensures) in omega arith
 
--- src/lib.rt:169:29
 add-most : tie.Need-add-most
-add-most c = let f = numbers ((c .before .before .before .before .before .before .pre) .0) ((c .before .before .before .before .before .before .pre) .1 .0) _ ((c .end-of) .ensures) in omega arith
+add-most c =
+    let f = numbers (c .before .before .before .before .before .before .before .before .pre .0) (c .before .if1 .left) (c .before .before .before .before .before .before .before .before .pre .1 .0) _ (c .end-of .ensures) in omega arith
 
--- src/lib.rt:169:21
 sub-most-2 : tie.Need-sub-most-2
-sub-most-2 c = let f = numbers ((c .before .before .before .before .before .before .pre) .0) ((c .before .before .before .before .before .before .pre) .1 .0) _ ((c .end-of) .ensures) in omega arith
+sub-most-2 c =
+    let f = numbers (c .before .before .before .before .before .before .before .before .pre .0) (c .before .if1 .left) (c .before .before .before .before .before .before .before .before .pre .1 .0) _ (c .end-of .ensures) in omega arith
 
--- src/lib.rt:169:16
 mul-most : tie.Need-mul-most
 mul-most c = search needs
 
--- src/lib.rt:170:24
 mul-reduce : tie.Need-mul-reduce
-mul-reduce c = let f = numbers ((c .before .before .before .before .before .before .pre) .0) ((c .before .before .before .before .before .before .pre) .1 .0) _ ((c .end-of) .ensures) in omega arith
+mul-reduce c =
+    let f = numbers (c .before .before .before .before .before .before .before .before .pre .0) (c .before .if1 .left) (c .before .before .before .before .before .before .before .before .pre .1 .0) _ (c .end-of .ensures) in omega arith
 
--- src/lib.rt:170:31
 mul-reduce-2 : tie.Need-mul-reduce-2
-mul-reduce-2 c = let f = numbers ((c .before .before .before .before .before .before .pre) .0) ((c .before .before .before .before .before .before .pre) .1 .0) _ ((c .end-of) .ensures) in omega arith
+mul-reduce-2 c =
+    let f = numbers (c .before .before .before .before .before .before .before .before .pre .0) (c .before .if1 .left) (c .before .before .before .before .before .before .before .before .pre .1 .0) _ (c .end-of .ensures) in omega arith
 
--- src/lib.rt:170:11
 reduce-requires : tie.Need-reduce-requires
 reduce-requires c κs =
-    let f = numbers ((c .before .before .before .before .before .before .before .before .pre) .0) ((c .before .before .before .before .before .before .before .before .pre) .1 .0) _ ((c .before .before .end-of) .ensures) in (ready-source ((c .before .before .before .before .before .before .before .before .pre) .0) ((c .before .before .before .before .before .before .before .before .pre) .1 .0), (omega arith, (omega arith, (omega arith, omega arith))))
+    let f = numbers (c .before .before .before .before .before .before .before .before .before .before .pre .0) (c .before .before .before .if1 .left) (c .before .before .before .before .before .before .before .before .before .before .pre .1 .0) _ (c .before .before .end-of .ensures) in (ready-source (c .before .before .before .before .before .before .before .before .before .before .pre .0) (c .before .before .before .if1 .left) (c .before .before .before .before .before .before .before .before .before .before .pre .1 .0), (omega arith, (omega arith, (omega arith, omega arith))))
 
--- src/lib.rt:171:33
 enum-told : tie.Need-enum-told
 enum-told c = search needs
 
--- src/lib.rt:172:30
 enum-told-2 : tie.Need-enum-told-2
 enum-told-2 c = search needs
 
--- src/lib.rt:152:1
 same-length : tie.Need-same-length
 same-length c = search needs
 
--- src/lib.rt:152:1
 same-length-2 : tie.Need-same-length-2
 same-length-2 c = search needs
 
--- src/lib.rt:152:1
-returns : tie.Need-returns
-returns c =
-    let f = numbers ((c .before .before .before .before .before .before .before .before .before .before .before .before .before .before .before .pre) .0) ((c .before .before .before .before .before .before .before .before .before .before .before .before .before .before .before .pre) .1 .0) _ ((c .before .before .before .before .before .before .before .before .before .end-of) .ensures) in fits-room ((c .before .before .before .before .before .before .before .before .before .before .before .before .before .before .before .pre) .0) ((c .before .before .before .before .before .before .before .before .before .before .before .before .before .before .before .pre) .1 .0) _ ((c .before .before .before .before .before .before .before .before .before .end-of) .ensures) _ _ _ _ ((c .before .before .before .before .before .before .reduce) .ensures) (omega arith) _ ((c .enum-told) .given .1)
+returns-2 : tie.Need-returns-2
+returns-2 c =
+    let f = numbers (c .before .before .before .before .before .before .before .before .before .before .before .before .before .before .before .before .before .pre .0) (c .before .before .before .before .before .before .before .before .before .before .if1 .left) (c .before .before .before .before .before .before .before .before .before .before .before .before .before .before .before .before .before .pre .1 .0) _ (c .before .before .before .before .before .before .before .before .before .end-of .ensures) in fits-room (c .before .before .before .before .before .before .before .before .before .before .before .before .before .before .before .before .before .pre .0) (c .before .before .before .before .before .before .before .before .before .before .if1 .left) (c .before .before .before .before .before .before .before .before .before .before .before .before .before .before .before .before .before .pre .1 .0) _ (c .before .before .before .before .before .before .before .before .before .end-of .ensures) _ _ _ _ (c .before .before .before .before .before .before .reduce .ensures) (omega arith) _ (c .enum-told .given .1)
 
--- src/lib.rt:152:1
 same-length-3 : tie.Need-same-length-3
 same-length-3 c = search needs
 
--- src/lib.rt:152:1
 same-length-4 : tie.Need-same-length-4
 same-length-4 c = search needs
 
--- src/lib.rt:152:1
-returns-2 : tie.Need-returns-2
-returns-2 c =
-    let f = numbers ((c .before .before .before .before .before .before .before .before .before .before .before .before .before .before .before .pre) .0) ((c .before .before .before .before .before .before .before .before .before .before .before .before .before .before .before .pre) .1 .0) _ ((c .before .before .before .before .before .before .before .before .before .end-of) .ensures) in fits-not ((c .before .before .before .before .before .before .before .before .before .before .before .before .before .before .before .pre) .0) ((c .before .before .before .before .before .before .before .before .before .before .before .before .before .before .before .pre) .1 .0) _ ((c .before .before .before .before .before .before .before .before .before .end-of) .ensures) _ _ _ _ ((c .before .before .before .before .before .before .reduce) .ensures) (omega arith) ((c .enum-told2) .given .1)
+returns-3 : tie.Need-returns-3
+returns-3 c =
+    let f = numbers (c .before .before .before .before .before .before .before .before .before .before .before .before .before .before .before .before .before .pre .0) (c .before .before .before .before .before .before .before .before .before .before .if1 .left) (c .before .before .before .before .before .before .before .before .before .before .before .before .before .before .before .before .before .pre .1 .0) _ (c .before .before .before .before .before .before .before .before .before .end-of .ensures) in fits-not (c .before .before .before .before .before .before .before .before .before .before .before .before .before .before .before .before .before .pre .0) (c .before .before .before .before .before .before .before .before .before .before .if1 .left) (c .before .before .before .before .before .before .before .before .before .before .before .before .before .before .before .before .before .pre .1 .0) _ (c .before .before .before .before .before .before .before .before .before .end-of .ensures) _ _ _ _ (c .before .before .before .before .before .before .reduce .ensures) (omega arith) (c .enum-told2 .given .1)
 
 pub fits-spec : {M : Type 1} → statement M
 fits-spec =
     tie.close
     (tie.spec
+    mul-if1
+    shared-slice-read-if1
+    returns
     end-of-requires
     sub-most
     add-most
@@ -92,7 +91,7 @@ fits-spec =
     enum-told-2
     same-length
     same-length-2
-    returns
+    returns-2
     same-length-3
     same-length-4
-    returns-2)
+    returns-3)

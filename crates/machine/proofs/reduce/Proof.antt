@@ -1,7 +1,7 @@
 -- `machine::reduce` meets its contract: the copy is of the body that the redex goes to. Assumes nothing.
 use native.Mathlib.Omega.{arith}
 use denote.Ref.{now}
-use Rattle.machine.proofs.Contract.{body-called, body-applied, called-in, called-lies}
+use Rattle.machine.proofs.Contract.{body-called, body-applied, called-in, called-lies, source-none}
 use borrow.Author.Needs.{needs}
 use Rattle.machine.proofs.reduce.Statement.{statement}
 use Rattle.machine.proofs.reduce.Tie as tie
@@ -61,7 +61,7 @@ part-substitute-end-2 c = search needs
 
 substitute-requires-2 : tie.Need-substitute-requires-2
 substitute-requires-2 c κs =
-    ((c .before .before .before .before .before .before .before .before .before .before .pre) .0 .applied ((c .before .before .before .match) .rest .1), (omega arith, omega arith))
+    ((c .before .before .before .before .before .before .before .before .before .before .pre) .0 .applied ((c .before .before .before .match) .keys2), (omega arith, omega arith))
 
 same-length : tie.Need-same-length
 same-length c = search needs
@@ -81,7 +81,11 @@ same-length-4 c = search needs
 
 returns-2 : tie.Need-returns-2
 returns-2 c =
-    rw (body-applied (now ((c .before .before .before .before .before .before .before .before .before .before .before .before .before .before .before .args) .e)) (now ((c .before .before .before .before .before .before .before .before .before .before .before .before .before .before .before .args) .script)) (now ((c .before .before .before .before .before .before .before .before .before .before .before .before .before .before .before .args) .bodies)) ((c .before .before .before .before .before .before .before .before .before .before .before .before .before .before .before .args) .p) ((c .before .before .before .before .before .before .before .before .match) .rest .1)) ((c .before .before .before .before .substitute2) .ensures)
+    rw (body-applied (now ((c .before .before .before .before .before .before .before .before .before .before .before .before .before .before .before .args) .e)) (now ((c .before .before .before .before .before .before .before .before .before .before .before .before .before .before .before .args) .script)) (now ((c .before .before .before .before .before .before .before .before .before .before .before .before .before .before .before .args) .bodies)) ((c .before .before .before .before .before .before .before .before .before .before .before .before .before .before .before .args) .p) ((c .before .before .before .before .before .before .before .before .match) .keys2)) ((c .before .before .before .before .substitute2) .ensures)
+
+returns-3 : tie.Need-returns-3
+returns-3 c =
+    absurd (source-none _ _ _ _ ((c .before .before .before .before .before .before .before .pre) .0) ((c .match) .rest .0 .1) ((c .match) .rest .1))
 
 pub reduce-spec : {M : Type 1} → statement M
 reduce-spec =
@@ -110,4 +114,5 @@ reduce-spec =
     returns
     same-length-3
     same-length-4
-    returns-2)
+    returns-2
+    returns-3)

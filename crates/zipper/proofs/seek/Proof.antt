@@ -1,13 +1,14 @@
 -- `zipper::seek` meets its contract. The loop's invariant: the buffers hold the expression that they held at first. The measure is the records
--- from the focus on: each turn leaves an application's record or a value behind. Assumes nothing.
+-- from the focus on: each turn leaves a frame's record or a value behind. Assumes nothing.
 use native.Mathlib.Omega.{arith}
 use borrow.Author.Needs.{needs}
+use denote.Ref.{now}
 use mathlib.Core.Logic.{⊎-elim}
 use mathlib.Core.Path.{_≡_, refl}
-use Prim.Native.Nat.{_-_}
+use Prim.Native.Nat.{_-_, _*_}
 use lib.ListN.{length, length-set}
 use Rattle.zipper.specs.Zipper.{wholeIn, ZipOf}
-use Rattle.zipper.proofs.Search.{Seen, seen, seek-enter, seek-value, end-in, seek-turn, head-in, seek-head}
+use Rattle.zipper.proofs.Search.{Seen, seen, seek-enter, seek-none, seek-value, end-in, value-whole, frame-in, seek-turn, seek-branch, first-in, seek-pair}
 use Rattle.zipper.proofs.seek.Statement.{statement}
 use Rattle.zipper.proofs.seek.Tie as tie
 
@@ -19,7 +20,7 @@ abbrev μ-loop : tie.MeasureT-loop
 μ-loop e₀ frames₀ l r count left₀ right₀ depth₀ e frames left right depth = 3072 - right
 
 loop-holds : tie.Need-loop-holds Inv-loop μ-loop
-loop-holds c = (c .before .before .pre, seen (c .before .before .pre), refl, refl)
+loop-holds c = ((c .before .before .pre), seen (c .before .before .pre), refl, refl)
 
 mul-kind : tie.Need-mul-kind Inv-loop μ-loop
 mul-kind c = omega arith
@@ -34,7 +35,7 @@ same-length-2 : tie.Need-same-length-2 Inv-loop μ-loop
 same-length-2 c = search needs
 
 returns : tie.Need-returns Inv-loop μ-loop
-returns c = seek-value (c .before .before .before .before .loop .inv .0) (omega arith) (c .if3 .taken)
+returns c = seek-value ((c .before .before .before .before .before .loop) .inv .0) (omega arith) ((c .if3) .taken)
 
 sub-entry : tie.Need-sub-entry Inv-loop μ-loop
 sub-entry c = omega arith
@@ -45,9 +46,12 @@ mul-entry c = omega arith
 slice-read-entry : tie.Need-slice-read-entry Inv-loop μ-loop
 slice-read-entry c = omega arith
 
-at-head-requires : tie.Need-at-head-requires Inv-loop μ-loop
-at-head-requires c κs =
-    head-in (c .before .before .before .before .before .before .before .loop .inv .0) (omega arith) (c .before .before .before .if3 .left) _ refl (c .before .if4 .taken)
+cast-p : tie.Need-cast-p Inv-loop μ-loop
+cast-p c = omega (arith, (c .slice-known4) .given ((c .before .before .before .before .before .before .loop) .depth - 1))
+
+at-pair-requires : tie.Need-at-pair-requires Inv-loop μ-loop
+at-pair-requires c κs =
+    (first-in ((c .before .before .before .before .before .before .before .before .loop) .inv .0) (omega arith) ((c .before .before .before .if3) .left) _ refl _ refl ((c .before .if4) .taken), omega arith)
 
 same-length-3 : tie.Need-same-length-3 Inv-loop μ-loop
 same-length-3 c = search needs
@@ -57,32 +61,36 @@ same-length-4 c = search needs
 
 returns-2 : tie.Need-returns-2 Inv-loop μ-loop
 returns-2 c =
-    rw (c .at-head .ensures) (seek-head (c .before .before .before .before .before .before .before .before .loop .inv .0) (omega arith) (c .before .before .before .before .if3 .left) _ refl (c .before .before .if4 .taken))
+    rw ((c .at-pair) .ensures) (seek-pair ((c .before .before .before .before .before .before .before .before .before .loop) .inv .0) (omega arith) ((c .before .before .before .before .if3) .left) _ refl _ refl ((c .before .before .if4) .taken))
 
-end-of-requires : tie.Need-end-of-requires Inv-loop μ-loop
-end-of-requires c κs = search needs
+mul-if5 : tie.Need-mul-if5 Inv-loop μ-loop
+mul-if5 c =
+    let s = frame-in ((c .before .before .before .before .before .before .before .loop) .inv .0) (omega arith) ((c .before .before .if3) .left) _ refl _ refl in omega arith
 
-mul-move-within : tie.Need-mul-move-within Inv-loop μ-loop
-mul-move-within c = omega arith
+slice-read-if5 : tie.Need-slice-read-if5 Inv-loop μ-loop
+slice-read-if5 c =
+    let s = frame-in ((c .before .before .before .before .before .before .before .before .loop) .inv .0) (omega arith) ((c .before .before .before .if3) .left) _ refl _ refl in omega arith
 
-mul-move-within-2 : tie.Need-mul-move-within-2 Inv-loop μ-loop
-mul-move-within-2 c = omega arith
+at-branch-requires : tie.Need-at-branch-requires Inv-loop μ-loop
+at-branch-requires c κs = search needs
 
-sub-move-within : tie.Need-sub-move-within Inv-loop μ-loop
-sub-move-within c =
-    let s = end-in (c .before .before .before .before .before .before .before .before .before .loop .inv .0) (omega arith) (c .before .before .before .before .before .if3 .left) _ refl in omega arith
+same-length-5 : tie.Need-same-length-5 Inv-loop μ-loop
+same-length-5 c = search needs
 
-mul-move-within-3 : tie.Need-mul-move-within-3 Inv-loop μ-loop
-mul-move-within-3 c =
-    let s = end-in (c .before .before .before .before .before .before .before .before .before .loop .inv .0) (omega arith) (c .before .before .before .before .before .if3 .left) _ refl in omega arith
+same-length-6 : tie.Need-same-length-6 Inv-loop μ-loop
+same-length-6 c = search needs
 
-move-within-requires : tie.Need-move-within-requires Inv-loop μ-loop
-move-within-requires c κs =
-    let s = end-in (c .before .before .before .before .before .before .before .before .before .loop .inv .0) (omega arith) (c .before .before .before .before .before .if3 .left) _ refl in omega arith
+returns-3 : tie.Need-returns-3 Inv-loop μ-loop
+returns-3 c =
+    rw ((c .at-branch) .ensures) (seek-branch ((c .before .before .before .before .before .before .before .before .before .before .loop) .inv .0) (omega arith) ((c .before .before .before .before .before .if3) .left) _ refl _ refl ((c .before .before .before .if4) .left) ((c .before .if5) .taken))
+
+leave-requires : tie.Need-leave-requires Inv-loop μ-loop
+leave-requires c κs =
+    (omega arith, value-whole ((c .before .before .before .before .before .before .before .before .before .before .loop) .inv .0) (omega arith) ((c .before .before .before .before .before .if3) .left) _ refl)
 
 add-frames : tie.Need-add-frames Inv-loop μ-loop
 add-frames c =
-    omega (arith, c .before .before .before .before .before .before .before .slice-known4 .given (c .before .before .before .before .before .before .before .before .before .before .before .before .loop .depth - 1))
+    omega (arith, (c .before .before .before .before .before .before .before .slice-known4) .given ((c .before .before .before .before .before .before .before .before .before .before .before .before .before .loop) .depth - 1))
 
 sub-frames : tie.Need-sub-frames Inv-loop μ-loop
 sub-frames c = omega arith
@@ -95,23 +103,55 @@ slice-write-frames c = omega arith
 
 sub-left : tie.Need-sub-left Inv-loop μ-loop
 sub-left c =
-    let s = end-in (c .before .before .before .before .before .before .before .before .before .before .before .before .loop .inv .0) (omega arith) (c .before .before .before .before .before .before .before .before .if3 .left) _ refl in omega arith
+    let s = end-in ((c .before .before .before .before .before .before .before .before .before .before .before .before .before .loop) .inv .0) (omega arith) ((c .before .before .before .before .before .before .before .before .if3) .left) _ refl in omega (arith, (c .before .before .leave) .ensures .0)
 
 add-left : tie.Need-add-left Inv-loop μ-loop
 add-left c =
-    let s = end-in (c .before .before .before .before .before .before .before .before .before .before .before .before .loop .inv .0) (omega arith) (c .before .before .before .before .before .before .before .before .if3 .left) _ refl in omega arith
+    let s = end-in ((c .before .before .before .before .before .before .before .before .before .before .before .before .before .loop) .inv .0) (omega arith) ((c .before .before .before .before .before .before .before .before .if3) .left) _ refl in omega (arith, (c .before .before .leave) .ensures .0)
 
 loop-less : tie.Need-loop-less Inv-loop μ-loop
 loop-less c =
-    let s = end-in (c .before .before .before .before .before .before .before .before .before .before .before .before .loop .inv .0) (omega arith) (c .before .before .before .before .before .before .before .before .if3 .left) _ refl in omega arith
+    let s = end-in ((c .before .before .before .before .before .before .before .before .before .before .before .before .before .loop) .inv .0) (omega arith) ((c .before .before .before .before .before .before .before .before .if3) .left) _ refl in omega (arith, (c .before .before .leave) .ensures .0)
 
 loop-again : tie.Need-loop-again Inv-loop μ-loop
 loop-again c =
-    let z = seek-turn (c .before .before .before .before .before .before .before .before .before .before .before .before .loop .inv .0) (omega arith) (c .before .before .before .before .before .before .before .before .if3 .left) _ refl (c .before .before .before .before .before .before .if4 .left) _ (c .before .before .before .before .end-of .ensures) _ _ (c .before .before .move-within .ensures) refl in
-    (z, seen z, omega arith, simp length-set (omega arith))
+    let z = seek-turn ((c .before .before .before .before .before .before .before .before .before .before .before .before .before .loop) .inv .0) (omega arith) ((c .before .before .before .before .before .before .before .before .if3) .left) _ refl _ refl ((c .before .before .before .before .before .before .if4) .left) ((c .before .before .before .before .if5) .left) _ ((c .before .before .leave) .ensures .0) _ _ ((c .before .before .leave) .ensures .1) refl in (z, seen z, omega arith, simp length-set (omega arith))
+
+same-length-7 : tie.Need-same-length-7 Inv-loop μ-loop
+same-length-7 c = search needs
+
+same-length-8 : tie.Need-same-length-8 Inv-loop μ-loop
+same-length-8 c = search needs
+
+returns-4 : tie.Need-returns-4 Inv-loop μ-loop
+returns-4 c =
+    absurd (seek-none ((c .before .before .before .loop) .inv .0) (λ a b. omega arith) (λ a. omega arith) (λ a b. omega arith))
+
+same-length-9 : tie.Need-same-length-9 Inv-loop μ-loop
+same-length-9 c = search needs
+
+same-length-10 : tie.Need-same-length-10 Inv-loop μ-loop
+same-length-10 c = search needs
+
+returns-5 : tie.Need-returns-5 Inv-loop μ-loop
+returns-5 c =
+    absurd (seek-none ((c .before .before .before .before .before .loop) .inv .0) (λ a b. omega arith) ((c .before .before .before .match) .rest .1) (λ a b. omega arith))
+
+same-length-11 : tie.Need-same-length-11 Inv-loop μ-loop
+same-length-11 c = search needs
+
+same-length-12 : tie.Need-same-length-12 Inv-loop μ-loop
+same-length-12 c = search needs
+
+returns-6 : tie.Need-returns-6 Inv-loop μ-loop
+returns-6 c =
+    absurd (seek-none ((c .before .before .before .before .before .before .loop) .inv .0) (λ a b. omega arith) (λ a. omega arith) (λ a b. omega arith))
 
 mul-put-u64 : tie.Need-mul-put-u64 Inv-loop μ-loop
 mul-put-u64 c = omega arith
+
+cast-put-u64 : tie.Need-cast-put-u64 Inv-loop μ-loop
+cast-put-u64 c = omega (arith, (c .before .before .slice-known3) .given (8 * (c .before .before .before .loop) .right))
 
 put-u64-requires : tie.Need-put-u64-requires Inv-loop μ-loop
 put-u64-requires c κs = search needs
@@ -142,8 +182,7 @@ loop-less-2 c = omega arith
 
 loop-again-2 : tie.Need-loop-again-2 Inv-loop μ-loop
 loop-again-2 c =
-    let z = seek-enter (c .before .before .before .before .before .before .loop .inv .0) (λ a b. ⊎-elim (λ w. omega arith) (λ w. omega arith) (c .before .before .before .before .if1 .came)) _ _ (c .before .before .put-u64 .ensures) refl in
-    (z, seen z, omega arith, simp length-set (omega arith))
+    let z = seek-enter ((c .before .before .before .before .before .before .loop) .inv .0) (λ a b. ⊎-elim (λ w. omega arith) (λ w. omega arith) ((c .before .before .before .before .match) .came)) _ _ ((c .before .before .put-u64) .ensures) refl in (z, seen z, omega arith, simp length-set (omega arith))
 
 pub seek-spec : {M : Type 1} → statement M
 seek-spec =
@@ -160,16 +199,18 @@ seek-spec =
     sub-entry
     mul-entry
     slice-read-entry
-    at-head-requires
+    cast-p
+    at-pair-requires
     same-length-3
     same-length-4
     returns-2
-    end-of-requires
-    mul-move-within
-    mul-move-within-2
-    sub-move-within
-    mul-move-within-3
-    move-within-requires
+    mul-if5
+    slice-read-if5
+    at-branch-requires
+    same-length-5
+    same-length-6
+    returns-3
+    leave-requires
     add-frames
     sub-frames
     mul-frames
@@ -178,7 +219,17 @@ seek-spec =
     add-left
     loop-less
     loop-again
+    same-length-7
+    same-length-8
+    returns-4
+    same-length-9
+    same-length-10
+    returns-5
+    same-length-11
+    same-length-12
+    returns-6
     mul-put-u64
+    cast-put-u64
     put-u64-requires
     mul-frames-2
     cast-frames
