@@ -1,4 +1,5 @@
-//! Times the engine and the plain Rust model on the workloads, side by side: `cargo run --release` prints a table.
+//! Times the engine and the plain Rust model on the workloads, side by side: `cargo run --release` prints a table, and below it what a sum or
+//! a branch costs the engine beyond the loop around it.
 //!
 //! A figure is the best of several calls, in three rounds over all workloads, so that other work on the machine spoils few of them. Buffers
 //! are not cleared between calls: no entry looks at what they held. Each figure is taken in a process of its own, which is stopped after ten
@@ -15,6 +16,8 @@ const ENOUGH: Duration = Duration::from_millis(400);
 const ROUNDS: usize = 3;
 /// The model makes at most so many steps of a plain run: its time goes by the step.
 const MODEL_STEPS: u32 = 20_000;
+/// A run, and one with as many turns that lacks its sums or branches, or has half of them: the further steps are timed by the difference.
+const BESIDE: [(&str, &str); 5] = [("s1", "s0"), ("s2", "s0"), ("s3", "s3n"), ("s4", "s0"), ("s5", "s5h")];
 
 /// A line of workloads/index.txt: name, script, guideline, budget, what it stresses.
 struct Workload {
@@ -64,7 +67,7 @@ fn best(mut call: impl FnMut() -> u32) -> Figure {
 /// What is measured on a workload.
 #[derive(PartialEq)]
 enum Kind {
-    /// Plain runs, w1 to w4: the time of a step.
+    /// Plain runs, w1 to w4 and s0 to s5: the time of a step.
     Plain,
     /// Rewritten runs of the rewritten script, w5.
     Rewritten,
@@ -75,10 +78,10 @@ enum Kind {
 }
 
 fn kind(name: &str) -> Kind {
-    match name.as_bytes()[1] {
-        b'1'..=b'4' => Kind::Plain,
-        b'5' => Kind::Rewritten,
-        b'6' => Kind::Derive,
+    match name.as_bytes() {
+        [b's', ..] | [_, b'1'..=b'4', ..] => Kind::Plain,
+        [_, b'5', ..] => Kind::Rewritten,
+        [_, b'6', ..] => Kind::Derive,
         _ => Kind::Rewrite,
     }
 }
@@ -191,6 +194,16 @@ fn better(one: Option<Figure>, two: Option<Figure>) -> Option<Figure> {
     }
 }
 
+/// What each further step of a run costs over the run beside it, where both were timed.
+fn print_further(engine: impl Fn(&str) -> Option<Figure>) {
+    for (name, less) in BESIDE {
+        if let (Some(a), Some(b)) = (engine(name), engine(less)) {
+            let further = Figure { call: a.call.saturating_sub(b.call), steps: a.steps - b.steps };
+            println!("{name} has {} steps more than {less}, {} each.", further.steps, shown(further.step()));
+        }
+    }
+}
+
 fn main() {
     let all = workloads();
     let args: Vec<String> = env::args().skip(1).collect();
@@ -237,4 +250,6 @@ fn main() {
         };
         println!("| {} | {} | {steps} | {call} | {step} | {other} | {ratio} |", w.name, w.what);
     }
+    println!();
+    print_further(|name| wanted.iter().zip(&figures).find(|(w, _)| w.name == name).and_then(|(_, (one, _))| *one));
 }
