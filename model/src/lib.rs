@@ -1,8 +1,9 @@
-//! A plain model of document 01, written from its sentences alone.
+//! A plain model of document 01 and of Item 1 of document 02, written from their sentences alone.
 //!
 //! It is naive on purpose: terms are trees, predicates are worked out in rounds, triggers are
 //! searched one by one. The functions below mirror the engine's entries on byte slices. Quoted
-//! sentences are document 01's; "decision n" is an item of the first list in docs/DECISIONS.md.
+//! sentences are document 01's and, on sums and branches, Item 1's; "decision n" is an item of the
+//! first list in docs/DECISIONS.md.
 
 pub mod demand;
 pub mod generate;

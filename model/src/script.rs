@@ -5,7 +5,8 @@ use std::rc::Rc;
 use Term::*;
 
 /// "A term is an application or a value, and an abstraction's body is a term again; kinds 1 to 4
-/// begin values. Kinds 6 and 7 begin terms too, only in rewritten scripts."
+/// begin values. Kinds 6 and 7 begin terms too, only in rewritten scripts." And Item 1: "Script
+/// kinds 9, a sum, and 10, a branch, have number 0; two and three terms follow."
 pub enum Term {
     Variable(u32),
     Function(u32),
@@ -17,6 +18,10 @@ pub enum Term {
     /// Function number, argument and rest.
     CallEvent(u32, Rc<Term>, Rc<Term>),
     Emit(u32, Rc<Term>, Rc<Term>),
+    /// Left and right.
+    Sum(Rc<Term>, Rc<Term>),
+    /// First, second and third.
+    Branch(Rc<Term>, Rc<Term>, Rc<Term>),
 }
 
 /// "The view of a closed value is the kind and number of its first record (house rule)."
@@ -61,12 +66,12 @@ impl Record {
     }
 
     /// "The record kinds are 1 to 8, each with its own range of numbers"; those of 6, 7 and 8 are
-    /// all in range (decision 1).
+    /// all in range (decision 1). "Kinds 9 and 10 leave refusal 2", with number 0.
     fn in_range(&self) -> bool {
         let number = match self.kind {
             1 => self.number <= 1_023,
             4 => self.number <= 65_535,
-            5 => self.number == 0,
+            5 | 9 | 10 => self.number == 0,
             2 | 3 | 6 | 7 | 8 => true,
             _ => false,
         };
@@ -155,7 +160,8 @@ impl Term {
         match self {
             Variable(_) | Function(_) | Constant(_) => 1,
             Abstraction(_, body) => 1 + body.size(),
-            Application(function, argument) => 1 + function.size() + argument.size(),
+            Application(one, two) | Sum(one, two) => 1 + one.size() + two.size(),
+            Branch(first, second, third) => 1 + first.size() + second.size() + third.size(),
             CallEvent(_, _, rest) | Emit(_, _, rest) => rest.size(),
         }
     }
@@ -170,6 +176,8 @@ impl Term {
             Application(..) => (5, 0),
             CallEvent(function, ..) => (6, *function),
             Emit(function, ..) => (7, *function),
+            Sum(..) => (9, 0),
+            Branch(..) => (10, 0),
         };
         View { kind, number }
     }
@@ -186,9 +194,14 @@ impl Term {
         match self {
             Variable(_) | Function(_) | Constant(_) => {}
             Abstraction(_, body) => body.write(out),
-            Application(one, two) | CallEvent(_, one, two) | Emit(_, one, two) => {
+            Application(one, two) | CallEvent(_, one, two) | Emit(_, one, two) | Sum(one, two) => {
                 one.write(out);
                 two.write(out);
+            }
+            Branch(first, second, third) => {
+                first.write(out);
+                second.write(out);
+                third.write(out);
             }
         }
     }
@@ -200,8 +213,12 @@ impl Term {
             Variable(number) if *number >= around => Err(place),
             Variable(_) | Function(_) | Constant(_) => Ok(place + 1),
             Abstraction(_, body) => body.scope(around + 1, place + 1),
-            Application(one, two) | CallEvent(_, one, two) | Emit(_, one, two) => {
+            Application(one, two) | CallEvent(_, one, two) | Emit(_, one, two) | Sum(one, two) => {
                 two.scope(around, one.scope(around, place + 1)?)
+            }
+            Branch(first, second, third) => {
+                let place = first.scope(around, place + 1)?;
+                third.scope(around, second.scope(around, place)?)
             }
         }
     }
@@ -227,6 +244,8 @@ fn term(records: &[Record], at: &mut usize) -> Result<Rc<Term>, usize> {
         5 => Application(next()?, next()?),
         6 => CallEvent(number, next()?, next()?),
         7 => Emit(number, next()?, next()?),
+        9 => Sum(next()?, next()?),
+        10 => Branch(next()?, next()?, next()?),
         _ => return Err(place),
     }))
 }
@@ -245,7 +264,8 @@ fn in_place(records: &[Record], place: usize) -> bool {
 
 /// "A term reader stands on one record of a lent script and passes over a whole term to the
 /// record after it, going by kinds alone; where no whole term of kinds 1 to 7 begins, or no such
-/// record is, it answers none." A part of a record at the end is no record (decision 13).
+/// record is, it answers none." A part of a record at the end is no record (decision 13). "Passing
+/// over a term now takes kinds 9 and 10 too and promises no, one, two or three subterms by kind."
 pub fn pass_term(script: &[u8], record: u64) -> Option<u64> {
     let count = (script.len() / 8) as u64;
     let (mut at, mut wanted) = (record, 1);
@@ -256,7 +276,8 @@ pub fn pass_term(script: &[u8], record: u64) -> Option<u64> {
         match script[at as usize * 8] {
             1..=3 => wanted -= 1,
             4 => {}
-            5..=7 => wanted += 1,
+            5..=7 | 9 => wanted += 1,
+            10 => wanted += 2,
             _ => return None,
         }
         at += 1;
