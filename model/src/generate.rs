@@ -213,7 +213,8 @@ fn noise(rng: &mut Rng, size: usize) -> Vec<u8> {
         return rng.bytes(length);
     }
     let mut file = vec![0; size * (1 + rng.below(20_000))];
-    let kinds = rng.pick(&[&[4, 5][..], &[1, 4, 5, 6], &[1, 2, 3, 4, 5, 6, 7, 8]]);
+    let all = [1, 2, 3, 4, 5, 6, 7, 8, 9, 10];
+    let kinds = rng.pick(&[&[4, 5][..], &[9, 10], &[1, 4, 5, 6], &[3, 3, 9, 10], &all]);
     file.chunks_mut(size).for_each(|record| record[0] = rng.pick(kinds));
     file
 }
@@ -254,7 +255,7 @@ pub fn damage(rng: &mut Rng, file: &mut Vec<u8>, size: usize) {
             let records = file[at..at + size].repeat(rng.pick(&[1, 4, missing]));
             file.splice(at..at, records);
         }
-        6 => file[at] = rng.below(10) as u8,
+        6 => file[at] = rng.below(12) as u8,
         7 | 8 => file[at + 1 + rng.below(3)] = rng.below(6) as u8,
         9 | 10 => renumber(rng, file, size),
         _ => {

@@ -9,6 +9,7 @@ pub mod demand;
 pub mod generate;
 pub mod guideline;
 pub mod predicates;
+pub mod reached;
 pub mod rewriting;
 pub mod runs;
 pub mod script;

@@ -1,8 +1,9 @@
 //! The model on generated cases: what refusals and answers leave in lent bytes, that the cases
-//! reach every number and outcome, and demand 3.
+//! reach every number, every outcome and all that sums and branches can come to, and demand 3.
 
 use model::demand::{demand_3, Ended};
 use model::generate::{budget, files, Case, Rng};
+use model::reached;
 use model::*;
 use std::collections::{BTreeMap, BTreeSet};
 
@@ -41,12 +42,14 @@ fn passes(script: &[u8]) -> bool {
     pass_term(script, at) == Some(script.len() as u64 / 8)
 }
 
-/// How often each number and each outcome of each entry was seen, and how many log entries.
+/// How often each number and each outcome of each entry was seen, how many log entries, and what
+/// sums and branches came to.
 #[derive(Default)]
 struct Seen {
     numbers: BTreeMap<(&'static str, u32), u32>,
     outcomes: BTreeMap<(&'static str, u32), u32>,
     logged: u32,
+    own: BTreeMap<&'static str, u32>,
 }
 
 impl Seen {
@@ -58,13 +61,22 @@ impl Seen {
     fn outcome(&mut self, entry: &'static str, outcome: u32) {
         *self.outcomes.entry((entry, outcome)).or_default() += 1;
     }
+
+    fn own(&mut self, classes: BTreeSet<&'static str>) {
+        for class in classes {
+            *self.own.entry(class).or_default() += 1;
+        }
+    }
 }
 
 /// Checking, deriving and rewriting a case; gives the derived table.
 fn records(seed: u64, case: &Case, seen: &mut Seen) -> Vec<u8> {
     let (script, guideline) = (&case.script, &case.guideline);
-    if seen.number("check", check(script, guideline)) {
+    let verdict = check(script, guideline);
+    seen.own(reached::file(script, verdict));
+    if seen.number("check", verdict) {
         assert!(passes(script), "seed {seed}: the term reader");
+        seen.own(reached::steps(script, case.budget).classes);
     }
 
     let mut lent = lend([case.out]);
@@ -114,8 +126,9 @@ fn entries() {
         let derived = records(seed, &case, &mut seen);
         runs(seed, &case, &derived, &mut seen);
     }
-    let Seen { numbers, outcomes, logged } = seen;
+    let Seen { numbers, outcomes, logged, own } = seen;
     println!("numbers {numbers:?}\noutcomes {outcomes:?}\nlog entries {logged}");
+    println!("sums and branches {own:#?}");
 
     let script = 0..=7;
     let both = script.clone().chain(11..=17);
@@ -133,6 +146,9 @@ fn entries() {
     for (entry, all) in [("plain", 0..4), ("rewritten", 0..5)] {
         let seen = outcomes.keys().filter(|key| key.0 == entry).map(|key| key.1);
         assert!(seen.eq(all), "the outcomes of {entry}");
+    }
+    for class in reached::FILES.iter().chain(&reached::STEPS) {
+        assert!(own.contains_key(class), "not reached: {class}");
     }
 }
 
@@ -157,9 +173,16 @@ fn rewritten_run(script: &[u8], guideline: &[u8], budget: u64) -> (u32, u32, Vec
     (outcome, steps, expression, log)
 }
 
-/// Demand 3 of the rewritten runs of some shows; it tells other runs apart.
+/// How many entries of a log are of these calls.
+fn among(log: &[u8], calls: &BTreeSet<u32>) -> usize {
+    let time = |entry: &[u8]| u32::from_le_bytes(entry[..4].try_into().unwrap());
+    log.chunks(16).filter(|entry| calls.contains(&time(entry))).count()
+}
+
+/// Demand 3 of the rewritten runs of some shows; it tells other runs apart. Calls inside sums and
+/// inside taken arms are logged too.
 fn demand_3_of(shows: impl Iterator<Item = (Vec<u8>, Vec<u8>, u64)>) {
-    let (mut full, mut logged) = (0, 0);
+    let (mut full, mut logged, mut in_sums, mut in_arms) = (0, 0, 0, 0);
     for (script, guideline, budget) in shows {
         let (outcome, steps, expression, log) = rewritten_run(&script, &guideline, budget);
         let holds = |ended: &Ended| demand_3(&script, &guideline, budget, ended);
@@ -170,9 +193,12 @@ fn demand_3_of(shows: impl Iterator<Item = (Vec<u8>, Vec<u8>, u64)>) {
         assert!(log.is_empty() || holds(&Ended { log: &log[16..], ..ended }).is_err(), "log");
         full += u32::from(outcome == 4);
         logged += log.len() / 16;
+        let reached = reached::steps(&script, budget);
+        in_sums += among(&log, &reached.in_sums);
+        in_arms += among(&log, &reached.in_arms);
     }
-    println!("full histories {full}, log entries {logged}");
-    assert!(full > 10 && logged > 1_000);
+    println!("full histories {full}, log entries {logged}, in sums {in_sums}, in arms {in_arms}");
+    assert!(full > 10 && logged > 1_000 && in_sums > 100 && in_arms > 100);
 }
 
 #[test]

@@ -51,7 +51,7 @@ pub fn damage_command(rng: &mut Rng, script: &mut Vec<u8>) {
 
 /// Variable 0 or a term that a command must not have as its argument.
 fn argument(rng: &mut Rng) -> Vec<u8> {
-    let terms: [&[(u8, u32)]; 8] = [
+    let terms: [&[(u8, u32)]; 10] = [
         &[(1, 0)],
         &[(1, 1)],
         &[(2, 0)],
@@ -60,6 +60,8 @@ fn argument(rng: &mut Rng) -> Vec<u8> {
         &[(5, 0), (1, 0), (1, 0)],
         &[(6, 0), (1, 0), (1, 0)],
         &[(7, 0), (1, 0), (3, 1)],
+        &[(9, 0), (1, 0), (1, 0)],
+        &[(10, 0), (1, 0), (1, 0), (3, 1)],
     ];
     let mut out = Vec::new();
     for &(kind, number) in rng.pick(&terms) {

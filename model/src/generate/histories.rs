@@ -1,5 +1,6 @@
-//! Shows with long histories: scripts that call a few functions many times on few arguments, and
-//! guidelines whose clauses have triggers.
+//! Shows with long histories: scripts that call a few functions many times on few arguments, some
+//! with sums and branches between the calls and around them, and guidelines whose clauses have
+//! triggers.
 
 use super::guidelines::{closure, record, Record};
 use super::Rng;
@@ -16,23 +17,37 @@ type Value = (u8, u32);
 
 /// A valid script without commands, a valid guideline for it, and how many steps are worth making.
 pub fn history(rng: &mut Rng) -> (Vec<u8>, Vec<u8>, u64) {
+    let own = rng.pick(&[Own::None, Own::None, Own::OfConstants, Own::OfCalls]);
+    let kinds: &[u8] = if own == Own::OfCalls { &[3] } else { &[2, 3, 3, 4] };
     let mut values = Vec::new();
     for _ in 0..rng.pick(&[2, 3, 4]) {
-        values.push((rng.pick(&[2, 3, 3, 4]), rng.below(2) as u32));
+        values.push((rng.pick(kinds), rng.below(2) as u32));
     }
-    let mut show = Show { rng, values, out: Vec::new() };
+    let mut show = Show { rng, own, counts: false, values, out: Vec::new() };
     let (named, steps) = match show.rng.below(18) {
         0 => show.growth(),
         1..=6 => show.tree(),
         _ => show.turns(),
     };
-    let Show { rng, values, out } = show;
+    let Show { rng, values, out, .. } = show;
     (out, guideline(rng, named, &values), steps)
+}
+
+/// Which sums and branches a show has: of constants alone, which are never stuck, or of what calls
+/// return too, where all values are constants.
+#[derive(Clone, Copy, PartialEq)]
+enum Own {
+    None,
+    OfConstants,
+    OfCalls,
 }
 
 /// Writes a script over few values; the functions 0 and 1 are always defined.
 struct Show<'a> {
     rng: &'a mut Rng,
+    own: Own,
+    /// Whether turns count in their parameter.
+    counts: bool,
     values: Vec<Value>,
     out: Vec<u8>,
 }
@@ -69,6 +84,7 @@ impl Show<'_> {
         let called = 2 + self.rng.below(4);
         let once = self.rng.below(called);
         let loops = 1 + self.rng.below(3);
+        self.counts = self.own == Own::OfCalls && self.rng.one_in(3);
         for number in 0..called {
             push(&mut self.out, 8, number as u32);
             match self.rng.below(5) {
@@ -104,20 +120,119 @@ impl Show<'_> {
         }
         let mut calls = vec![0; self.rng.below(8)];
         calls.push(1);
+        if self.own != Own::None {
+            push(&mut self.out, 9, 0);
+            push(&mut self.out, 3, 0);
+        }
         self.sequence(&calls, 0);
         (2, 1_100)
     }
 
     /// Calls these functions in turn.
     fn sequence(&mut self, functions: &[usize], around: usize) {
-        push(&mut self.out, 5, 0);
-        if functions.len() > 1 {
-            push(&mut self.out, 4, self.rng.below(6) as u32);
-            self.sequence(&functions[1..], around + 1);
-            push(&mut self.out, 5, 0);
+        match functions {
+            [last] if self.counts => self.count(*last, around),
+            // A sum around the last call of a turn would grow from turn to turn.
+            [last] => {
+                let rare = self.own == Own::OfCalls && !self.rng.one_in(8);
+                let own = if rare { Own::OfConstants } else { self.own };
+                self.part(*last, around, own);
+            }
+            _ => {
+                push(&mut self.out, 5, 0);
+                push(&mut self.out, 4, self.rng.below(6) as u32);
+                self.sequence(&functions[1..], around + 1);
+                self.part(functions[0], around, self.own);
+            }
         }
-        push(&mut self.out, 2, functions[0] as u32);
-        self.leaf(around);
+    }
+
+    /// A call of the function, at times as an arm or the first term of a branch, or in a sum.
+    fn part(&mut self, function: usize, around: usize, own: Own) {
+        let forms = [0, 2, 12][own as usize];
+        match self.rng.below(18) {
+            form if form >= forms => self.call(function, around),
+            0..=3 => {
+                push(&mut self.out, 10, 0);
+                match own {
+                    Own::OfCalls => self.leaf(around),
+                    _ => push(&mut self.out, 3, self.rng.below(2) as u32),
+                }
+                self.call(function, around);
+                self.call(function, around);
+            }
+            4..=5 => {
+                push(&mut self.out, 10, 0);
+                self.call(function, around);
+                self.argument(around);
+                self.argument(around);
+            }
+            6..=7 => {
+                push(&mut self.out, 9, 0);
+                self.call(function, around);
+                self.leaf(around);
+            }
+            8..=9 => {
+                push(&mut self.out, 9, 0);
+                self.leaf(around);
+                self.call(function, around);
+            }
+            _ => {
+                push(&mut self.out, 9, 0);
+                self.call(function, around);
+                self.call(function, around);
+            }
+        }
+    }
+
+    fn call(&mut self, function: usize, around: usize) {
+        push(&mut self.out, 5, 0);
+        push(&mut self.out, 2, function as u32);
+        self.argument(around);
+    }
+
+    /// A call on one more than the definition's parameter; in main on 0, or on a number that runs
+    /// past 4,294,967,295 in some hundred turns.
+    fn count(&mut self, function: usize, around: usize) {
+        push(&mut self.out, 5, 0);
+        push(&mut self.out, 2, function as u32);
+        if around == 0 {
+            let some = self.rng.below(1_500) as u32;
+            push(&mut self.out, 3, self.rng.pick(&[0, u32::MAX - some]));
+        } else {
+            push(&mut self.out, 9, 0);
+            push(&mut self.out, 1, around as u32 - 1);
+            push(&mut self.out, 3, 1);
+        }
+    }
+
+    /// A leaf, at times worked out by a sum or a branch.
+    fn argument(&mut self, around: usize) {
+        let forms = [0, 2, 4][self.own as usize];
+        match self.rng.below(12) {
+            form if form >= forms => self.leaf(around),
+            0 => {
+                push(&mut self.out, 9, 0);
+                for number in self.rng.pick(&[[0, 0], [0, 1], [1, 0]]) {
+                    push(&mut self.out, 3, number);
+                }
+            }
+            1 => {
+                push(&mut self.out, 10, 0);
+                push(&mut self.out, 3, self.rng.below(2) as u32);
+                self.leaf(around);
+                self.leaf(around);
+            }
+            2 => {
+                push(&mut self.out, 9, 0);
+                self.leaf(around);
+                push(&mut self.out, 3, 0);
+            }
+            _ => {
+                push(&mut self.out, 10, 0);
+                (0..3).for_each(|_| self.leaf(around));
+            }
+        }
     }
 
     /// A value, the definition's parameter, or what the call before returned.
