@@ -13,6 +13,7 @@
 use lorgwin_tests as engine;
 use model::demand::{demand_3, Ended};
 use model::generate::{Case, Rng};
+use model::reached::{self, Reached};
 use model::script::push;
 use model::{BUDGET, EXPRESSION, HISTORY, LOG, SCRATCH, TABLE};
 use std::collections::{BTreeMap, BTreeSet};
@@ -122,6 +123,27 @@ impl Seen {
         self.add_if(&format!("{entry}: over 10,000 steps"), steps > 10_000);
         let records = model::pass_term(expression.read(), 0).unwrap();
         self.add_if(&format!("{entry}: 1,024 records left"), records == 1_024);
+    }
+
+    /// What the steps of a show came to: its sums and branches, and the calls inside them.
+    fn steps(&mut self, entry: &str, words: Words, history: &Buffer, log: &Buffer, reached: &Reached) {
+        let [number, _, outcome, steps, noted, logged] = words;
+        if number != 0 || reached.own.is_empty() {
+            return;
+        }
+        let times = |buffer: &Buffer, count: u32| -> BTreeSet<u32> {
+            let entries = buffer.read().chunks_exact(16).take(count as usize);
+            entries.map(|entry| u32::from_le_bytes(entry[..4].try_into().unwrap())).collect()
+        };
+        let (history, log) = (times(history, noted), times(log, logged));
+        self.add(&format!("{entry}: {}, sums and branches made", OUTCOMES[outcome as usize]), 1);
+        self.add_if("logs with a call in a sum", !log.is_disjoint(&reached.in_sums));
+        self.add_if("logs with a call in a taken arm", !log.is_disjoint(&reached.in_arms));
+        self.add_if("logs over 100, sums and branches made", logged > 100);
+        // They are made though no more calls can be noted.
+        let last = history.last().map_or(0, |time| time + 1);
+        let after = outcome == FULL && reached.own.range(last..steps).next().is_some();
+        self.add_if("full histories, sums and branches made after the last entry", after);
     }
 
     /// What a run left in history and log under this guideline.
@@ -235,7 +257,12 @@ impl Files {
         let script = self.script.read();
         let found = engine::pass_term(script, record);
         assert_eq!(found, model::pass_term(script, record), "pass_term at {record}: the engine's answer and the model's");
-        seen.add(if found.is_some() { "pass_term: a record" } else { "pass_term: none" }, 1);
+        let found = if found.is_some() { "a record" } else { "none" };
+        seen.add(&format!("pass_term: {found}"), 1);
+        let offset = usize::try_from(record).ok().and_then(|record| record.checked_mul(8));
+        let kind = offset.and_then(|offset| script.get(offset));
+        seen.add_if(&format!("pass_term: {found}, at a sum"), kind == Some(&9));
+        seen.add_if(&format!("pass_term: {found}, at a branch"), kind == Some(&10));
     }
 
     fn rewrite(&self, seen: &mut Seen, lent: [Buffer; 1]) -> (Words, [Buffer; 1]) {
@@ -297,6 +324,7 @@ impl Files {
         let holds = demand_3(script, guideline, budget.into(), &ended);
         assert_eq!(holds, Ok(()), "demand 3 of the engine's run with budget {budget}");
         seen.add("demand 3 tested", 1);
+        seen.add_if("demand 3 tested, sums or branches in the script", reached::has_own(script));
         seen.add_if("demand 3 tested, log not empty", logged > 0);
         seen.add_if("demand 3 tested, history over 100", noted > 100);
         seen.add_if("demand 3 tested, history full", outcome == FULL);
@@ -351,7 +379,12 @@ fn compare(case: &Case, rng: &mut Rng, seen: &mut Seen) {
     let budget = case.budget as u32;
     let Case { out, expression: e, scratch: s, history: h, log: l, table: t, .. } = *case;
 
-    let accepted = files.check(seen)[0] == 0;
+    let [number, place, ..] = files.check(seen);
+    let accepted = number == 0;
+    let reached = reached::steps(&case.script, case.budget);
+    let classes = reached::file(&case.script, model::Verdict { number, place });
+    classes.union(&reached.classes).for_each(|class| seen.add(class, 1));
+    seen.add_if("scripts with sums or branches", reached::has_own(&case.script));
     files.derive(seen, lend(rng, [t]));
     for record in records(rng, case.script.len() / 8) {
         files.pass_term(seen, record);
@@ -364,10 +397,12 @@ fn compare(case: &Case, rng: &mut Rng, seen: &mut Seen) {
         let [logged, triggers] = [4, 5].map(|kind| named(&case.guideline, 16, kind));
         let called_for = &logged | &triggers;
         seen.add_if("commands run", !noting.is_empty());
+        seen.add_if("commands run, sums or branches in the script", !noting.is_empty() && reached::has_own(&case.script));
         seen.add_if("commands run that the guideline does not call for", !noting.is_subset(&called_for) || !emitting.is_subset(&logged));
         seen.add_if("commands run, others missing", !noting.is_empty() && !noting.is_superset(&called_for));
     }
     let (words, lent) = files.rehearse(seen, budget, lend(rng, [out, e, s, h, l, t]));
+    seen.steps("rehearse", words, &lent[3], &lent[4], &reached);
     files.demand_3(seen, case, budget, words, [&lent[1], &lent[4]]);
 
     if accepted {
@@ -377,6 +412,7 @@ fn compare(case: &Case, rng: &mut Rng, seen: &mut Seen) {
         let script = Buffer::file(rng, &out.read()[..8 * words[2] as usize]);
         let written = Files { script, ..files.clone() };
         let (words, lent) = written.run_rewritten(seen, budget, lend(rng, SIZES));
+        seen.steps("run_rewritten", words, &lent[2], &lent[3], &reached);
         files.demand_3(seen, case, budget, words, [&lent[0], &lent[3]]);
         files.run_plain(seen, budget, lend(rng, [EXPRESSION, SCRATCH]));
         if rng.one_in(4) {
@@ -410,27 +446,41 @@ fn wanted() -> Vec<String> {
     let partly = ["triggers 1", "triggers 2", "triggers 3", "triggers 4", "condition 6", "condition 7", "condition 8"];
     wanted.extend(partly.map(|class| format!("partly logged, history over 100, {class}")));
     wanted.extend([2, 3, 4].map(|kind| format!("logs with a view of kind {kind}")));
+    wanted.extend(reached::FILES.iter().chain(&reached::STEPS).map(|class| class.to_string()));
+    for entry in ["run_rewritten", "rehearse"] {
+        wanted.extend(OUTCOMES.map(|outcome| format!("{entry}: {outcome}, sums and branches made")));
+    }
     let others = [
         "calls never logged, history over 100",
         "commands run",
         "commands run that the guideline does not call for",
         "commands run, others missing",
+        "commands run, sums or branches in the script",
         "demand 3 tested",
         "demand 3 tested, history full",
         "demand 3 tested, history over 100",
         "demand 3 tested, log not empty",
+        "demand 3 tested, sums or branches in the script",
         "derive: more than the facts",
         "derive: over 1,000 more than the facts",
         "full histories with a log",
+        "full histories, sums and branches made after the last entry",
         "histories not empty",
         "histories over 100",
         "histories over 500",
         "logs not empty",
         "logs over 100",
         "logs over 500",
+        "logs over 100, sums and branches made",
+        "logs with a call in a sum",
+        "logs with a call in a taken arm",
         "logs with a time over 65,535",
         "pass_term: a record",
+        "pass_term: a record, at a branch",
+        "pass_term: a record, at a sum",
         "pass_term: none",
+        "pass_term: none, at a branch",
+        "pass_term: none, at a sum",
     ];
     wanted.extend(others.map(String::from));
     wanted
@@ -508,6 +558,7 @@ fn every_length() {
     for records in 0..=1_121 {
         let part = rng.below(8);
         cases.extend([0, part].map(|more| Case { script: [script(records), vec![0; more]].concat(), ..usual() }));
+        cases.push(Case { script: sums(records), ..usual() });
     }
     for records in 0..=257 {
         let fact = [1, 0, 3, 3, 7, 0, 0, 0, 8, 0, 0, 0, 0, 0, 0, 0];
@@ -530,6 +581,17 @@ fn every_length() {
         [("run_plain: number 0", 1_024), ("run_plain: number 1", 1_000), ("derive: number 11", 200), ("rehearse: number 23", 10)]
     {
         assert!(seen.0[class] >= count, "{class}: only {}", seen.0[class]);
+    }
+}
+
+/// A script of this many records: sums one in the other, in an arm where the count is even.
+fn sums(records: usize) -> Vec<u8> {
+    let record = |kind: u8, number: u8| vec![kind, 0, 0, 0, number, 0, 0, 0];
+    let nest = |records: usize| [[record(9, 0), record(3, 1)].concat().repeat(records / 2), record(3, 7)].concat();
+    match records {
+        0 | 2 => script(records),
+        _ if records % 2 == 0 => [record(10, 0), record(3, 0), nest(records - 3), record(3, 8)].concat(),
+        _ => nest(records),
     }
 }
 
