@@ -71,7 +71,7 @@ pub const STEPS: [&str; 41] = [
 ];
 
 /// Whether a script has sums or branches.
-pub fn has_own(script: &[u8]) -> bool {
+pub fn has_sums(script: &[u8]) -> bool {
     script.chunks(8).any(|record| matches!(record[0], 9 | 10))
 }
 
@@ -147,7 +147,7 @@ fn some(term: &Term, find: &dyn Fn(&Term) -> bool) -> bool {
 #[derive(Default)]
 pub struct Reached {
     pub classes: BTreeSet<&'static str>,
-    pub own: BTreeSet<u32>,
+    pub sums: BTreeSet<u32>,
     pub in_sums: BTreeSet<u32>,
     pub in_arms: BTreeSet<u32>,
 }
@@ -170,7 +170,7 @@ const CALL: u8 = 0;
 /// Follows the plain run of an accepted script, but for at most 20,000 steps.
 pub fn steps(script: &[u8], budget: u64) -> Reached {
     let mut reached = Reached::default();
-    if !has_own(script) {
+    if !has_sums(script) {
         return reached;
     }
     let Ok(script) = Script::read(script, Commands::Refused) else { return reached };
@@ -222,8 +222,8 @@ impl Reached {
     }
 
     fn stuck(&mut self, redex: &Term, way: &Way, before: &Before, spent: bool) {
-        let own = is_sum(redex) || is_branch(redex);
-        self.add_if("stuck on a sum or branch, budget spent", own && spent);
+        let here = is_sum(redex) || is_branch(redex);
+        self.add_if("stuck on a sum or branch, budget spent", here && spent);
         let class = match redex {
             Sum(left, right) => match (&**left, &**right) {
                 (Constant(a), Constant(b)) if a.wrapping_add(*b) == 0 => {
@@ -284,7 +284,7 @@ impl Reached {
         before.kind = if is_call(redex) { CALL } else { redex.view().kind };
         before.place = place;
         if before.kind > 5 {
-            self.own.insert(time);
+            self.sums.insert(time);
         }
     }
 
@@ -338,7 +338,7 @@ impl Reached {
             self.add_if("a call in a third arm", !second);
             self.add_if("a call in an arm in a sum", self.in_sums.contains(&time));
         }
-        self.add_if("a call after ten sums and branches", self.own.len() >= 10);
+        self.add_if("a call after ten sums and branches", self.sums.len() >= 10);
     }
 
     /// A value is put in the term for the variable that counts all `passed` abstractions; the

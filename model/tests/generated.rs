@@ -49,7 +49,7 @@ struct Seen {
     numbers: BTreeMap<(&'static str, u32), u32>,
     outcomes: BTreeMap<(&'static str, u32), u32>,
     logged: u32,
-    own: BTreeMap<&'static str, u32>,
+    reached: BTreeMap<&'static str, u32>,
 }
 
 impl Seen {
@@ -62,9 +62,9 @@ impl Seen {
         *self.outcomes.entry((entry, outcome)).or_default() += 1;
     }
 
-    fn own(&mut self, classes: BTreeSet<&'static str>) {
+    fn reached(&mut self, classes: BTreeSet<&'static str>) {
         for class in classes {
-            *self.own.entry(class).or_default() += 1;
+            *self.reached.entry(class).or_default() += 1;
         }
     }
 }
@@ -73,10 +73,10 @@ impl Seen {
 fn records(seed: u64, case: &Case, seen: &mut Seen) -> Vec<u8> {
     let (script, guideline) = (&case.script, &case.guideline);
     let verdict = check(script, guideline);
-    seen.own(reached::file(script, verdict));
+    seen.reached(reached::file(script, verdict));
     if seen.number("check", verdict) {
         assert!(passes(script), "seed {seed}: the term reader");
-        seen.own(reached::steps(script, case.budget).classes);
+        seen.reached(reached::steps(script, case.budget).classes);
     }
 
     let mut lent = lend([case.out]);
@@ -126,9 +126,9 @@ fn entries() {
         let derived = records(seed, &case, &mut seen);
         runs(seed, &case, &derived, &mut seen);
     }
-    let Seen { numbers, outcomes, logged, own } = seen;
+    let Seen { numbers, outcomes, logged, reached: sums } = seen;
     println!("numbers {numbers:?}\noutcomes {outcomes:?}\nlog entries {logged}");
-    println!("sums and branches {own:#?}");
+    println!("sums and branches {sums:#?}");
 
     let script = 0..=7;
     let both = script.clone().chain(11..=17);
@@ -148,7 +148,7 @@ fn entries() {
         assert!(seen.eq(all), "the outcomes of {entry}");
     }
     for class in reached::FILES.iter().chain(&reached::STEPS) {
-        assert!(own.contains_key(class), "not reached: {class}");
+        assert!(sums.contains_key(class), "not reached: {class}");
     }
 }
 

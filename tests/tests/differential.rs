@@ -128,7 +128,7 @@ impl Seen {
     /// What the steps of a show came to: its sums and branches, and the calls inside them.
     fn steps(&mut self, entry: &str, words: Words, history: &Buffer, log: &Buffer, reached: &Reached) {
         let [number, _, outcome, steps, noted, logged] = words;
-        if number != 0 || reached.own.is_empty() {
+        if number != 0 || reached.sums.is_empty() {
             return;
         }
         let times = |buffer: &Buffer, count: u32| -> BTreeSet<u32> {
@@ -142,7 +142,7 @@ impl Seen {
         self.add_if("logs over 100, sums and branches made", logged > 100);
         // They are made though no more calls can be noted.
         let last = history.last().map_or(0, |time| time + 1);
-        let after = outcome == FULL && reached.own.range(last..steps).next().is_some();
+        let after = outcome == FULL && reached.sums.range(last..steps).next().is_some();
         self.add_if("full histories, sums and branches made after the last entry", after);
     }
 
@@ -324,7 +324,7 @@ impl Files {
         let holds = demand_3(script, guideline, budget.into(), &ended);
         assert_eq!(holds, Ok(()), "demand 3 of the engine's run with budget {budget}");
         seen.add("demand 3 tested", 1);
-        seen.add_if("demand 3 tested, sums or branches in the script", reached::has_own(script));
+        seen.add_if("demand 3 tested, sums or branches in the script", reached::has_sums(script));
         seen.add_if("demand 3 tested, log not empty", logged > 0);
         seen.add_if("demand 3 tested, history over 100", noted > 100);
         seen.add_if("demand 3 tested, history full", outcome == FULL);
@@ -384,7 +384,7 @@ fn compare(case: &Case, rng: &mut Rng, seen: &mut Seen) {
     let reached = reached::steps(&case.script, case.budget);
     let classes = reached::file(&case.script, model::Verdict { number, place });
     classes.union(&reached.classes).for_each(|class| seen.add(class, 1));
-    seen.add_if("scripts with sums or branches", reached::has_own(&case.script));
+    seen.add_if("scripts with sums or branches", reached::has_sums(&case.script));
     files.derive(seen, lend(rng, [t]));
     for record in records(rng, case.script.len() / 8) {
         files.pass_term(seen, record);
@@ -397,7 +397,7 @@ fn compare(case: &Case, rng: &mut Rng, seen: &mut Seen) {
         let [logged, triggers] = [4, 5].map(|kind| named(&case.guideline, 16, kind));
         let called_for = &logged | &triggers;
         seen.add_if("commands run", !noting.is_empty());
-        seen.add_if("commands run, sums or branches in the script", !noting.is_empty() && reached::has_own(&case.script));
+        seen.add_if("commands run, sums or branches in the script", !noting.is_empty() && reached::has_sums(&case.script));
         seen.add_if("commands run that the guideline does not call for", !noting.is_subset(&called_for) || !emitting.is_subset(&logged));
         seen.add_if("commands run, others missing", !noting.is_empty() && !noting.is_superset(&called_for));
     }

@@ -17,13 +17,13 @@ type Value = (u8, u32);
 
 /// A valid script without commands, a valid guideline for it, and how many steps are worth making.
 pub fn history(rng: &mut Rng) -> (Vec<u8>, Vec<u8>, u64) {
-    let own = rng.pick(&[Own::None, Own::None, Own::OfConstants, Own::OfCalls]);
-    let kinds: &[u8] = if own == Own::OfCalls { &[3] } else { &[2, 3, 3, 4] };
+    let sums = rng.pick(&[Sums::None, Sums::None, Sums::OfConstants, Sums::OfCalls]);
+    let kinds: &[u8] = if sums == Sums::OfCalls { &[3] } else { &[2, 3, 3, 4] };
     let mut values = Vec::new();
     for _ in 0..rng.pick(&[2, 3, 4]) {
         values.push((rng.pick(kinds), rng.below(2) as u32));
     }
-    let mut show = Show { rng, own, counts: false, values, out: Vec::new() };
+    let mut show = Show { rng, sums, counts: false, values, out: Vec::new() };
     let (named, steps) = match show.rng.below(18) {
         0 => show.growth(),
         1..=6 => show.tree(),
@@ -35,8 +35,8 @@ pub fn history(rng: &mut Rng) -> (Vec<u8>, Vec<u8>, u64) {
 
 /// Which sums and branches a show has: of constants alone, which are never stuck, or of what calls
 /// return too, where all values are constants.
-#[derive(Clone, Copy, PartialEq)]
-enum Own {
+#[derive(Clone, Copy, PartialEq, Eq, PartialOrd, Ord)]
+enum Sums {
     None,
     OfConstants,
     OfCalls,
@@ -45,7 +45,7 @@ enum Own {
 /// Writes a script over few values; the functions 0 and 1 are always defined.
 struct Show<'a> {
     rng: &'a mut Rng,
-    own: Own,
+    sums: Sums,
     /// Whether turns count in their parameter.
     counts: bool,
     values: Vec<Value>,
@@ -84,7 +84,7 @@ impl Show<'_> {
         let called = 2 + self.rng.below(4);
         let once = self.rng.below(called);
         let loops = 1 + self.rng.below(3);
-        self.counts = self.own == Own::OfCalls && self.rng.one_in(3);
+        self.counts = self.sums == Sums::OfCalls && self.rng.one_in(3);
         for number in 0..called {
             push(&mut self.out, 8, number as u32);
             match self.rng.below(5) {
@@ -120,7 +120,7 @@ impl Show<'_> {
         }
         let mut calls = vec![0; self.rng.below(8)];
         calls.push(1);
-        if self.own != Own::None {
+        if self.sums != Sums::None {
             push(&mut self.out, 9, 0);
             push(&mut self.out, 3, 0);
         }
@@ -132,30 +132,27 @@ impl Show<'_> {
     fn sequence(&mut self, functions: &[usize], around: usize) {
         match functions {
             [last] if self.counts => self.count(*last, around),
-            // A sum around the last call of a turn would grow from turn to turn.
-            [last] => {
-                let rare = self.own == Own::OfCalls && !self.rng.one_in(8);
-                let own = if rare { Own::OfConstants } else { self.own };
-                self.part(*last, around, own);
-            }
+            [last] if self.rng.one_in(8) => self.part(*last, around, self.sums),
+            // Sums around the last call of a turn would grow from turn to turn.
+            [last] => self.part(*last, around, self.sums.min(Sums::OfConstants)),
             _ => {
                 push(&mut self.out, 5, 0);
                 push(&mut self.out, 4, self.rng.below(6) as u32);
                 self.sequence(&functions[1..], around + 1);
-                self.part(functions[0], around, self.own);
+                self.part(functions[0], around, self.sums);
             }
         }
     }
 
     /// A call of the function, at times as an arm or the first term of a branch, or in a sum.
-    fn part(&mut self, function: usize, around: usize, own: Own) {
-        let forms = [0, 2, 12][own as usize];
+    fn part(&mut self, function: usize, around: usize, sums: Sums) {
+        let forms = [0, 2, 12][sums as usize];
         match self.rng.below(18) {
             form if form >= forms => self.call(function, around),
             0..=3 => {
                 push(&mut self.out, 10, 0);
-                match own {
-                    Own::OfCalls => self.leaf(around),
+                match sums {
+                    Sums::OfCalls => self.leaf(around),
                     _ => push(&mut self.out, 3, self.rng.below(2) as u32),
                 }
                 self.call(function, around);
@@ -208,7 +205,7 @@ impl Show<'_> {
 
     /// A leaf, at times worked out by a sum or a branch.
     fn argument(&mut self, around: usize) {
-        let forms = [0, 2, 4][self.own as usize];
+        let forms = [0, 2, 4][self.sums as usize];
         match self.rng.below(12) {
             form if form >= forms => self.leaf(around),
             0 => {
