@@ -4,6 +4,8 @@
 use lorgwin_tests as engine;
 use model::{BUDGET, EXPRESSION, HISTORY, LOG, SCRATCH, TABLE};
 
+/// Expression, scratch, history, log and table.
+const SIZES: [usize; 5] = [EXPRESSION, SCRATCH, HISTORY, LOG, TABLE];
 const VALUE: u32 = 0;
 const STUCK: u32 = 1;
 const SPENT: u32 = 2;
@@ -52,12 +54,20 @@ fn stuck(script: &str, definitions: &str) {
     }
 }
 
+/// Number and place of checking a script, and of running it rewritten.
 fn refused(script: &str, number: u32, place: u32) {
     let bytes = records(script);
     let found = engine::check(&bytes, &[]);
     assert_eq!((found.number, found.place), (number, place), "{script}");
     let found = model::check(&bytes, &[]);
     assert_eq!((found.number, found.place), (number, place), "the model on {script}");
+
+    let mut lent = SIZES.map(|size| vec![1; size]);
+    let found = engine::run_rewritten(&bytes, &[], 0, lent.each_mut().map(Vec::as_mut_slice));
+    assert_eq!((found.number, found.place), (number, place), "{script}, rewritten");
+    let [e, s, h, l, t] = lent.each_mut().map(Vec::as_mut_slice);
+    let found = model::run_rewritten(&bytes, &[], 0, e, s, h, l, t).0;
+    assert_eq!((found.number, found.place), (number, place), "the model on {script}, rewritten");
 }
 
 #[test]
@@ -86,7 +96,9 @@ fn checks() {
     refused("4:0 10:0 1:0 1:0 1:1", 5, 4);
     refused("8:0 10:0 1:0 4:0 1:1 4:0 1:2 3:0", 5, 6);
     refused("10:0 3:1 2:0 3:1", 6, 2);
-    refused("8:0 9:0 6:0 1:0 3:1 3:1 3:0", 7, 2);
+    refused("8:0 9:0 6:0 1:0 1:0 3:1 3:0", 7, 2);
+    refused("8:0 9:0 3:1 6:0 1:0 1:0 3:0", 7, 3);
+    refused("8:0 10:0 6:0 1:0 1:0 3:1 3:2 3:0", 7, 2);
     refused("8:0 10:0 1:0 3:1 7:0 1:0 3:1 3:0", 7, 4);
     refused("4:0 9:0 1:0 10:0 1:0 1:0 1:0", 0, 0);
     // Views have kinds 2 to 4 still.

@@ -24,7 +24,7 @@ pub fn commands(rng: &mut Rng, script: &[u8]) -> Vec<u8> {
 pub fn damage_command(rng: &mut Rng, script: &mut Vec<u8>) {
     let commands: Vec<usize> =
         (0..script.len()).step_by(8).filter(|&at| matches!(script[at], 6 | 7)).collect();
-    let form = if commands.is_empty() { 5 } else { rng.below(7) };
+    let form = if commands.is_empty() { 6 } else { rng.below(8) };
     let at = if commands.is_empty() { 0 } else { rng.pick(&commands) };
     match form {
         0 => script[at] = 13 - script[at],
@@ -37,6 +37,11 @@ pub fn damage_command(rng: &mut Rng, script: &mut Vec<u8>) {
         4 => {
             let twice = script[at..at + 16].to_vec();
             drop(script.splice(at..at, twice));
+        }
+        5 => {
+            // Into the term that it stood before, where that is a sum or a branch.
+            let end = script.len().min(at + 24);
+            script[at..end].rotate_right(8);
         }
         _ => {
             // One more before any record, most often where a term begins.
