@@ -126,20 +126,21 @@ fn is_call(term: &Term) -> bool {
 }
 
 /// The terms that follow a term's first record.
-fn parts(term: &Term) -> Vec<&Rc<Term>> {
-    match term {
-        Variable(_) | Function(_) | Constant(_) => vec![],
-        Abstraction(_, body) => vec![body],
+fn parts(term: &Term) -> impl Iterator<Item = &Rc<Term>> {
+    let parts = match term {
+        Variable(_) | Function(_) | Constant(_) => [None; 3],
+        Abstraction(_, body) => [Some(body), None, None],
         Application(one, two) | CallEvent(_, one, two) | Emit(_, one, two) | Sum(one, two) => {
-            vec![one, two]
+            [Some(one), Some(two), None]
         }
-        Branch(first, second, third) => vec![first, second, third],
-    }
+        Branch(first, second, third) => [Some(first), Some(second), Some(third)],
+    };
+    parts.into_iter().flatten()
 }
 
 /// Whether a term is or has such a one.
 fn some(term: &Term, find: &dyn Fn(&Term) -> bool) -> bool {
-    find(term) || parts(term).into_iter().any(|part| some(part, find))
+    find(term) || parts(term).any(|part| some(part, find))
 }
 
 /// What the plain run of a script passes through: its classes, the steps that add or branch, the
@@ -200,7 +201,7 @@ fn redex<'a>(term: &'a Term, way: &mut Way<'a>) -> &'a Term {
         Branch(..) => 1,
         _ => 0,
     };
-    let first = parts(term).into_iter().take(worked).enumerate().find(|part| !part.1.is_value());
+    let first = parts(term).take(worked).enumerate().find(|part| !part.1.is_value());
     match first {
         Some((number, part)) => {
             way.push((term, number));
@@ -252,6 +253,27 @@ impl Reached {
         before.arms.retain(|(arm, _)| place.starts_with(arm));
         self.on_result(redex, &place, before);
         self.deep(way);
+        self.at(script, redex);
+        before.kind = if is_call(redex) { CALL } else { redex.view().kind };
+        match redex {
+            Branch(first, ..) => {
+                let zero = matches!(**first, Constant(0));
+                // An arm that is itself a branch gives way to that one's.
+                before.arms.retain(|(arm, _)| *arm != place);
+                before.arms.push((place.clone(), zero));
+                self.sums.insert(time);
+            }
+            Sum(..) => {
+                self.sums.insert(time);
+            }
+            _ if before.kind == CALL => self.call(time, way, before),
+            _ => {}
+        }
+        before.place = place;
+    }
+
+    /// What the redex itself tells.
+    fn at(&mut self, script: &Script, redex: &Term) {
         match redex {
             Sum(left, right) => {
                 self.add_if("a sum", true);
@@ -269,22 +291,13 @@ impl Reached {
                 self.add_if("a third arm on 4,294,967,295", most);
                 let other = if zero { third } else { second };
                 self.add_if("a call in the arm not taken", some(other, &is_call));
-                before.arms.push((place.clone(), zero));
             }
             Application(function, _) => match &**function {
-                Function(f) => {
-                    self.call(time, way, before);
-                    self.put(&script.definitions[*f as usize], 0, &mut vec![]);
-                }
+                Function(f) => self.put(&script.definitions[*f as usize], 0, &mut vec![]),
                 Abstraction(_, body) => self.put(body, 0, &mut vec![]),
                 _ => {}
             },
             _ => {}
-        }
-        before.kind = if is_call(redex) { CALL } else { redex.view().kind };
-        before.place = place;
-        if before.kind > 5 {
-            self.sums.insert(time);
         }
     }
 
@@ -319,10 +332,15 @@ impl Reached {
     }
 
     fn call(&mut self, time: u32, way: &Way, before: &Before) {
+        if way.iter().any(|around| is_sum(around.0)) {
+            self.in_sums.insert(time);
+        }
+        if !before.arms.is_empty() {
+            self.in_arms.insert(time);
+        }
         for (around, part) in way {
             match around {
                 Sum(left, _) => {
-                    self.in_sums.insert(time);
                     self.add_if("a call in a sum's left", *part == 0);
                     self.add_if("a call in a sum's right", *part == 1);
                     let number = matches!(**left, Constant(_));
@@ -333,7 +351,6 @@ impl Reached {
             }
         }
         for (_, second) in &before.arms {
-            self.in_arms.insert(time);
             self.add_if("a call in a second arm", *second);
             self.add_if("a call in a third arm", !second);
             self.add_if("a call in an arm in a sum", self.in_sums.contains(&time));
@@ -357,7 +374,7 @@ impl Reached {
             self.add_if("a value put under an abstraction in an arm", four);
         }
         let kind = term.view().kind;
-        for (number, part) in parts(term).into_iter().enumerate() {
+        for (number, part) in parts(term).enumerate() {
             // The first term of a branch is no arm.
             around.push(if kind == 10 && number == 0 { 5 } else { kind });
             self.put(part, passed + u32::from(kind == 4), around);
