@@ -93,6 +93,9 @@ fn checks() {
     refused("9:0 8:0 1:0 3:1", 3, 1);
     refused("8:0 1:0 10:0 3:1 3:2 8:1 1:0", 3, 5);
     refused("9:0 3:1 1:0", 5, 2);
+    refused("10:0 1:0 3:1 3:2", 5, 1);
+    refused("10:0 3:0 1:0 3:2", 5, 2);
+    refused("10:0 3:0 3:1 1:0", 5, 3);
     refused("4:0 10:0 1:0 1:0 1:1", 5, 4);
     refused("8:0 10:0 1:0 4:0 1:1 4:0 1:2 3:0", 5, 6);
     refused("10:0 3:1 2:0 3:1", 6, 2);
@@ -186,10 +189,11 @@ fn records_left() {
     ends(&format!("10:0*341 3:0 {}", "3:0 3:1 ".repeat(341)), 1_000, VALUE, 341, "3:0");
     ends(&format!("10:0*341 3:1 {}", "3:0 3:1 ".repeat(341)), 1_000, VALUE, 341, "3:1");
     ends(&("10:0 3:1 3:0 ".repeat(341) + "3:9"), 1_000, VALUE, 341, "3:9");
-    // A step to 1,024 records, and to more.
+    // A step to 1,024 records, and to 1,025.
     ends("5:0 4:0 10:0 3:0 1:0 1:0 4:0*510 3:5", 1, SPENT, 1, "10:0 3:0 4:0*510 3:5 4:0*510 3:5");
-    let large = "5:0 4:0 9:0 1:0 1:0 4:0*511 3:5";
-    ends(large, 10, LARGE, 0, large);
+    for large in ["5:0 4:0 9:0 1:0 1:0 4:0*511 3:5", "5:0 4:0 10:0 1:0 1:0 4:0 3:0 4:0*510 3:5"] {
+        ends(large, 10, LARGE, 0, large);
+    }
 }
 
 /// A script rewritten under a guideline that logs a function on any call, and run, the same by engine and model: the words after number and
