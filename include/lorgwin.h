@@ -44,7 +44,7 @@ enum { LORGWIN_VALUE = 0, LORGWIN_STUCK = 1, LORGWIN_SPENT = 2, LORGWIN_LARGE = 
 #define LORGWIN_LOG_BYTES 16384
 
 /* The longest file that rewriting writes. */
-#define LORGWIN_REWRITTEN_BYTES 8960
+#define LORGWIN_REWRITTEN_BYTES 10368
 
 /* What lorgwin_pass_term answers where no whole term begins. */
 #define LORGWIN_NO_TERM UINT64_MAX

@@ -1,4 +1,4 @@
--- The ten cases and those of sums and branches, by computing. Assumes nothing.
+-- The ten cases, those of sums and branches and those of overrides taken back, by computing. Assumes nothing.
 use mathlib.Core.Path.{_≡_, refl}
 use mathlib.Core.Bool.{true, false}
 use mathlib.Core.List.{[], _∷_, List·Memᴰ, List·Memᴰ·head, List·Memᴰ·tail, List·Memᴰ·eq-of-singleton}
@@ -15,7 +15,7 @@ use Rattle.calculus.specs.Entailment.{fits, entails?}
 use Rattle.calculus.specs.Rewriting.{logevents, triggers, logged, noted, instrument, rewriteFrom}
 use Rattle.calculus.specs.Run.{run}
 use Rattle.calculus.specs.Log as L
-use Rattle.calculus.specs.Cases.{TenCases, SumCases, atom, closure, constant}
+use Rattle.calculus.specs.Cases.{TenCases, SumCases, TakenBack, atom, closure, constant}
 use Rattle.calculus.proofs.Lists.{true-T, false-T}
 use Rattle.calculus.proofs.Least.{holds-least}
 
@@ -80,3 +80,7 @@ sums =
       on-abstraction = refl;
       applied = refl;
     }
+
+pub taken-back : TakenBack
+unfolding any all keep each distinct isValue view size bodies put S.step holds derived rounds nextRound yields given candidates predicates values appearing fits entails? logevents triggers logged noted instrument rewriteFrom run L.emitCall L.settle L.logTick L.logged
+taken-back = record { cancelled = refl; again = refl; itself = refl; once = refl }

@@ -343,12 +343,12 @@ module _ (G : Guideline) (safe : Safe G) (S : Program) (n : ℕ) (r : Result L.C
           let (i, h) = keep-from (entails? G (callsBelow S k)) (callsBelow S k) (rw log-are at m) in (
             calls-time S k x i,
             calls-cut S k (suc (x .time)) x (omega arith) i,
-            entails-map G (callsBelow S k) (callsBelow S (suc (x .time))) x (λ y j l _. calls-cut S k (suc (x .time)) y (omega arith) j) (entails-decides G safe (callsBelow S k) x .0 h),
+            entails-map G (callsBelow S k) (callsBelow S (suc (x .time))) x (λ y j l _. calls-cut S k (suc (x .time)) y (omega arith) j) (λ y j l _. calls-cut S (suc (x .time)) k y (let q = calls-time S k x i in omega arith) j) (entails-decides G safe (callsBelow S k) x .0 h),
           )
 
       back : (x .time < k) × List·Memᴰ x (callsBelow S (suc (x .time))) × Entails G (callsBelow S (suc (x .time))) x → List·Memᴰ x (r .last .state .log)
       back (l, i, h) =
-          let wider = entails-map G (callsBelow S (suc (x .time))) (callsBelow S k) x (λ y j l′ _. calls-cut S (suc (x .time)) k y (omega arith) j) h in
+          let wider = entails-map G (callsBelow S (suc (x .time))) (callsBelow S k) x (λ y j l′ _. calls-cut S (suc (x .time)) k y (omega arith) j) (λ y j l′ _. calls-cut S k (suc (x .time)) y (omega arith) j) h in
           rw log-are (keep-into (entails? G (callsBelow S k)) (calls-cut S (suc (x .time)) k x l i) (entails-decides G safe (callsBelow S k) x .1 wider))
 
   -- A full history means what the claim says.

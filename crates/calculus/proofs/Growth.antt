@@ -3,7 +3,7 @@ use mathlib.Core.Bool.{Bool, true, false, cond, not, _&&_, _||_}
 use mathlib.Core.List.{List, [], _∷_, List·Memᴰ, List·Memᴰ·head, List·Memᴰ·tail}
 use mathlib.Core.Path.{_≡_, refl, sym, ap, _∙_}
 use native.Mathlib.Omega.{arith}
-use Prim.Native.Nat.{ℕ, zero, suc, _+_, _*_, _<_}
+use Prim.Native.Nat.{ℕ, zero, suc, _+_, _*_, _<_, _≤_}
 use lib.Dec.{eqb, eqb→eq}
 use lib.ListN.{length}
 use Rattle.calculus.specs.Lists.{any, keep, among, distinct}
@@ -178,3 +178,19 @@ rewrite-grows G S hl ht =
     let c : tally (logged G) n ≡ length (distinct (logevents G)) = logged-distinct G n hl in
     let d : tally (only G) n ≡ length (keep (λ f. not (logged G f)) (distinct (triggers G))) = only-distinct G n ht in
     omega arith
+
+-- No number is of both sorts.
+both-most : (G : Guideline) (n : ℕ) → tally (logged G) n + tally (only G) n ≤ n
+unfolding tally unit only
+both-most G zero = omega arith
+both-most G (suc n) = on (logged G n) (among n (triggers G)) (both-most G n)
+  where
+    on : (a b : Bool) → tally (logged G) n + tally (only G) n ≤ n → (cond a 1 0 + tally (logged G) n) + (cond (not a && b) 1 0 + tally (only G) n) ≤ suc n
+    on true b h = omega arith
+    on false true h = omega arith
+    on false false h = omega arith
+
+-- Logged functions and other triggers are together no more than the definitions.
+pub functions-most : (G : Guideline) (n : ℕ) → ((f : ℕ) → List·Memᴰ f (logevents G) → f < n) → ((f : ℕ) → List·Memᴰ f (triggers G) → f < n)
+    → length (distinct (logevents G)) + length (keep (λ f. not (logged G f)) (distinct (triggers G))) ≤ n
+functions-most G n hl ht = omega (arith, both-most G n, logged-distinct G n hl, only-distinct G n ht)

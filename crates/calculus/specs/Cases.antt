@@ -1,11 +1,11 @@
--- The ten rehearsed cases of document 01, and cases of sums and branches, on trees. Assumes nothing.
+-- The ten rehearsed cases of document 01, and cases of sums and branches and of overrides taken back, on trees. Assumes nothing.
 use mathlib.Core.List.{List, [], _∷_}
 use mathlib.Core.Path.{_≡_}
 use Prim.Native.Nat.{ℕ}
 use Rattle.calculus.specs.Term.{Term, View, Program, viewOf}
 use Rattle.calculus.specs.Term.Term.{var, fun, con, lam, app, sum, branch}
 use Rattle.calculus.specs.Guideline.{Guideline, Atom, Condition}
-use Rattle.calculus.specs.Guideline.Condition.{before, related}
+use Rattle.calculus.specs.Guideline.Condition.{before, related, noneSince}
 use Rattle.calculus.specs.Least.{Least}
 use Rattle.calculus.specs.Derive.{factOf}
 use Rattle.calculus.specs.Entailment.{Entry}
@@ -110,3 +110,28 @@ pub record SumCases : Type 0 where
   pub on-abstraction : fires (branch (lam 0 (var 0)) (fire 2) (fire 3)) 1000 ≡ shows stuck 0 []
   -- A sum's result in function position.
   pub applied : fires (app (sum (con 1) (con 2)) (con 4)) 1000 ≡ shows stuck 1 []
+
+-- ---- overrides taken back (document 02, Item 2)
+
+-- Functions 0 (override), 1 (fire) and 2 (cancel) have variable 0 as body.
+abbrev pub withCancel : Term → Program
+withCancel e = record { definitions = var 0 ∷ var 0 ∷ var 0 ∷ []; main = e }
+
+-- The functions in turn, each on constant 7: their calls are at times 0, 2, 4 and so on.
+abbrev pub oneByOne : ℕ → List ℕ → Term
+oneByOne f [] = app (fun f) (con 7)
+oneByOne f (g ∷ gs) = app (lam 0 (oneByOne g gs)) (app (fun f) (con 7))
+
+-- Fire is logged after an override, unless h was called since.
+abbrev pub unless : ℕ → Guideline
+unless h = logs (0 ∷ []) (noneSince 1 h ∷ [])
+
+pub record TakenBack : Type 0 where
+  -- Override, cancel, fire: nothing is logged.
+  pub cancelled : rehearsed (unless 2) (withCancel (oneByOne 0 (2 ∷ 1 ∷ []))) 1000 ≡ shows value 5 []
+  -- Override, cancel, override, fire: the second override stands.
+  pub again : rehearsed (unless 2) (withCancel (oneByOne 0 (2 ∷ 0 ∷ 1 ∷ []))) 1000 ≡ shows value 7 (line 6 1 3 7 ∷ [])
+  -- The override itself does not take itself back.
+  pub itself : rehearsed (unless 0) (withCancel (oneByOne 0 (1 ∷ []))) 1000 ≡ shows value 3 (line 2 1 3 7 ∷ [])
+  -- Of two fires the first takes the override back for the second, not for itself.
+  pub once : rehearsed (unless 1) (withCancel (oneByOne 0 (1 ∷ 1 ∷ []))) 1000 ≡ shows value 5 (line 2 1 3 7 ∷ [])

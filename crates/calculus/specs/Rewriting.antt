@@ -1,24 +1,38 @@
 -- Rewriting (Definition 11 of source document 000, 13 of 002), for any number of logged clauses. Assumes nothing.
 use mathlib.Core.Bool.{Bool, cond, _||_}
-use mathlib.Core.List.{List, [], _∷_}
+use mathlib.Core.List.{List, [], _∷_, _++_}
 use mathlib.Core.Option.{Option, none, some}
 use Prim.Native.Nat.{ℕ, suc}
 use Rattle.calculus.specs.Lists.{each, among}
 use Rattle.calculus.specs.Term.{Term, Codebase, Program}
 use Rattle.calculus.specs.Term.Term.{var, callEvent, emit}
-use Rattle.calculus.specs.Guideline.{Guideline}
+use Rattle.calculus.specs.Guideline.{Guideline, Clause, Condition}
+use Rattle.calculus.specs.Guideline.Condition.{before, related, equal, differing, noneSince}
 
--- Logevent(LS) and Triggers(LS), over all clauses.
+-- Logevent(LS), over all clauses.
 unfoldable pub logevents : Guideline → List ℕ
 logevents G = each (λ c. c .function ∷ []) (G .clauses)
 
+-- The function whose calls take a trigger's call back.
+abbrev pub takenBack : Condition → List ℕ
+takenBack (before i j) = []
+takenBack (related p i j) = []
+takenBack (equal i j) = []
+takenBack (differing i j) = []
+takenBack (noneSince i h) = h ∷ []
+
+-- A clause's triggers, and each h of kind 9: "Rewriting treats h as a trigger for callEvent" (document 02, Item 2).
+abbrev pub watched : Clause → List ℕ
+watched c = c .triggers ++ each takenBack (c .conditions)
+
+-- Triggers(LS), over all clauses.
 unfoldable pub triggers : Guideline → List ℕ
-triggers G = each (λ c. c .triggers) (G .clauses)
+triggers G = each watched (G .clauses)
 
 unfoldable pub logged : Guideline → ℕ → Bool
 logged G f = among f (logevents G)
 
--- "A noted call is one of a function that gains 6": of a logged function or of a trigger.
+-- "A noted call is one of a function that gains 6": of a logged function, of a trigger or of the h of kind 9.
 unfoldable pub noted : Guideline → ℕ → Bool
 noted G f = logged G f || among f (triggers G)
 

@@ -100,7 +100,7 @@ fn print_log(log: &[u8; 16384], n: u32) {
 
 // The line of a rehearsal. Its buffers are full before, so that whatever is read there has been written.
 fn rehearse(s: &[u8], g: &[u8], budget: u32) {
-    let mut out = [255u8; 8960];
+    let mut out = [255u8; 10368];
     let mut e = [255u8; 24576];
     let mut scratch = [255u8; 24576];
     let mut history = [255u8; 16384];

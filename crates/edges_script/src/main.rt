@@ -4,16 +4,16 @@ ghost use Prim.Native.Nat.{_*_, _≤_, _<_};
 ghost use lib.ListN.{length};
 
 // Writes a record that is within the buffer.
-fn put(b: &mut [u8; 8968], i: usize, kind: u8, number: u32) {
-    if i < 1121 {
+fn put(b: &mut [u8; 10376], i: usize, kind: u8, number: u32) {
+    if i < 1297 {
         b[8 * i] = kind;
         words::put_u32(b, 8 * i + 4, number);
     }
 }
 
 // A definition at record i with variable 0 as its body; in a rewritten script with both commands before that.
-fn define(b: &mut [u8; 8968], i: usize, function: u32, rewritten: bool)
-    requires { ⌜ i < 1121 ⌝ }
+fn define(b: &mut [u8; 10376], i: usize, function: u32, rewritten: bool)
+    requires { ⌜ i < 1297 ⌝ }
 {
     put(b, i, 8, function);
     if rewritten {
@@ -28,7 +28,7 @@ fn define(b: &mut [u8; 8968], i: usize, function: u32, rewritten: bool)
 }
 
 // So many definitions of that size, then abstractions around a constant: n records in all.
-fn build(b: &mut [u8; 8968], definitions: u32, size: usize, n: usize)
+fn build(b: &mut [u8; 10376], definitions: u32, size: usize, n: usize)
     requires { ⌜ definitions ≤ 129 ⌝ }
     requires { ⌜ size ≤ 6 ⌝ }
     requires { ⌜ 1 ≤ n ⌝ }
@@ -67,8 +67,8 @@ fn check(b: &[u8], n: u32, purpose: Purpose)
 }
 
 // The array is lent on whole, since its length is known here.
-fn check_array(b: &[u8; 8968], n: u32, purpose: Purpose)
-    requires { ⌜ n ≤ 1121 ⌝ }
+fn check_array(b: &[u8; 10376], n: u32, purpose: Purpose)
+    requires { ⌜ n ≤ 1297 ⌝ }
 {
     check(b, n, purpose);
 }
@@ -77,9 +77,9 @@ fn edge(definitions: u32, size: usize, n: u32, purpose: Purpose)
     requires { ⌜ definitions ≤ 129 ⌝ }
     requires { ⌜ size ≤ 6 ⌝ }
     requires { ⌜ 1 ≤ n ⌝ }
-    requires { ⌜ n ≤ 1121 ⌝ }
+    requires { ⌜ n ≤ 1297 ⌝ }
 {
-    let mut b = [0u8; 8968];
+    let mut b = [0u8; 10376];
     build(&mut b, definitions, size, n as usize);
     check_array(&b, n, purpose);
 }
@@ -91,11 +91,11 @@ fn main() {
     // 128 and 129 definitions.
     edge(128, 2, 257, Purpose::PlainRun);
     edge(129, 2, 259, Purpose::PlainRun);
-    // 1,120 and 1,121 records for the rewritten run: 24 definitions with two commands have 96 records of commands and their arguments.
-    edge(24, 6, 1120, Purpose::RewrittenRun);
-    edge(24, 6, 1121, Purpose::RewrittenRun);
-    // 1,028 records besides those of 23 such definitions.
-    edge(23, 6, 1120, Purpose::RewrittenRun);
+    // 1,296 and 1,297 records for the rewritten run: 68 definitions with two commands have 272 records of commands and their arguments.
+    edge(68, 6, 1296, Purpose::RewrittenRun);
+    edge(68, 6, 1297, Purpose::RewrittenRun);
+    // 1,028 records besides those of 67 such definitions.
+    edge(67, 6, 1296, Purpose::RewrittenRun);
     // Commands where none may stand.
     edge(23, 6, 1024, Purpose::Rewriting);
 }

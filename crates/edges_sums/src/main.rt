@@ -93,7 +93,7 @@ fn run_plain(s: &[u8], budget: u32) {
 }
 
 fn rehearse(s: &[u8], g: &[u8], budget: u32) {
-    let mut out = [255u8; 8960];
+    let mut out = [255u8; 10368];
     let mut e = [255u8; 24576];
     let mut scratch = [255u8; 24576];
     let mut history = [255u8; 16384];

@@ -42,8 +42,8 @@ long-enough p q r s u = rw (p, q, r, s, u) refl
 pub buffers-fit : tooShort (length (zeros 24576)) (length (zeros 24576)) (length (zeros 16384)) (length (zeros 16384)) (length (zeros 8192)) ≡ false
 buffers-fit = long-enough (zeros-length 24576) (zeros-length 24576) (zeros-length 16384) (zeros-length 16384) (zeros-length 8192)
 
--- A rewritten script has at most 1,120 records.
-written-most : {s g : List ℕ} → Passed s g → length (writtenFile s g) ≤ 8960
+-- A rewritten script has at most 1,296 records.
+written-most : {s g : List ℕ} → Passed s g → length (writtenFile s g) ≤ 10368
 written-most {s} {g} p =
     let S : Program = rewrite (guidelineOf g) (script-program (p .script)) in
     omega (arith, ap length (written-is p), program-length 0 (S .definitions) (S .main), written-formed p .short)
@@ -67,11 +67,11 @@ module _ (s g : List ℕ) where
 
   -- Whatever is due for the buffers here is a number of rewriting: …
   due : Verdict
-  due = rehearsalDue s g 1000 (tooShort (length (zeros 24576)) (length (zeros 24576)) (length (zeros 16384)) (length (zeros 16384)) (length (zeros 8192))) (length (zeros 8960))
+  due = rehearsalDue s g 1000 (tooShort (length (zeros 24576)) (length (zeros 24576)) (length (zeros 16384)) (length (zeros 16384)) (length (zeros 8192))) (length (zeros 10368))
 
-  due-rewriting : due ≡ rewritingVerdict s g 8960
+  due-rewriting : due ≡ rewritingVerdict s g 10368
   unfolding due rehearsalDue refuseIf
-  due-rewriting = rw (buffers-fit, zeros-length 8960) refl
+  due-rewriting = rw (buffers-fit, zeros-length 10368) refl
 
   -- … what checking refuses, …
   due-refused : (checkOf s g .number ≡ 0 → ⊥) → due ≡ checkOf s g
@@ -81,7 +81,7 @@ module _ (s g : List ℕ) where
   -- … or nothing.
   due-passed : Passed s g → due ≡ accepted
   unfolding rewritingVerdict refuseIf andThen
-  due-passed p = due-rewriting ∙ rw (p .script .verdict, p .verdict, le-ltb 8960 (length (writtenFile s g)) (written-most p))
+  due-passed p = due-rewriting ∙ rw (p .script .verdict, p .verdict, le-ltb 10368 (length (writtenFile s g)) (written-most p))
 
   -- ---- the two ways
 

@@ -55,8 +55,8 @@ unfolding bytes writtenFile
 written-length = rw (program-there script program refl program-fits, guideline-is) rewritten-length
 
 -- So the output is long enough for it.
-written-fits : length (writtenFile script afterOverride) ≤ length (zeros 8960)
-written-fits = rw (zeros-length 8960) (omega (arith, written-length))
+written-fits : length (writtenFile script afterOverride) ≤ length (zeros 10368)
+written-fits = rw (zeros-length 10368) (omega (arith, written-length))
 
 -- The numbers of its one entry are small.
 entry-ranged : AllInRange (line 2 1 3 7 ∷ [])
@@ -67,8 +67,8 @@ pub sample : listing script afterOverride ≡ 50 ∷ 32 ∷ 49 ∷ 32 ∷ 51 ∷
 unfolding listing rehearsed each digitsOf text.numeral entryLine entryLines
 sample =
     rw (
-      ten .a .answer (zeros 8960) (zeros 24576) (zeros 24576) (zeros 16384) (zeros 16384) (zeros 8192) written-fits buffers-fit,
-      ten .a .log (zeros 8960) (zeros 24576) (zeros 24576) (zeros 16384) (zeros 16384) (zeros 8192) written-fits buffers-fit,
+      ten .a .answer (zeros 10368) (zeros 24576) (zeros 24576) (zeros 16384) (zeros 16384) (zeros 8192) written-fits buffers-fit,
+      ten .a .log (zeros 10368) (zeros 24576) (zeros 24576) (zeros 16384) (zeros 16384) (zeros 8192) written-fits buffers-fit,
       buffer-read (line 2 1 3 7 ∷ []) (zeros 16384) entry-ranged,
     )
     refl

@@ -191,7 +191,7 @@ pub record Turn (s : List ℕ) (at f mark : ℕ) : Type 0 where
   pub two : mark ≤ 2
   pub low : f < 128
   pub inside : at + 1 < count s
-  pub few : count s ≤ 1120
+  pub few : count s ≤ 1296
   pub forward : at + 1 < endAt s (at + 1)
   pub within : endAt s (at + 1) ≤ count s
 

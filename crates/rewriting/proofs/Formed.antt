@@ -1,17 +1,17 @@
 -- The rewritten run accepts what rewriting writes. Assumes nothing.
-use mathlib.Core.Bool.{Bool, true, false, cond, not}
+use mathlib.Core.Bool.{Bool, true, false, cond}
 use mathlib.Core.List.{List, [], _∷_, List·Memᴰ, List·Memᴰ·head, List·Memᴰ·tail, List·Memᴰ·not-nil}
 use mathlib.Core.Option.{IsSome}
 use mathlib.Core.Path.{_≡_, refl, sym, ap, subst, _∙_}
-use Prim.Native.Nat.{ℕ, suc, _+_, _*_, _<_, _≤_}
+use Prim.Native.Nat.{ℕ, suc, _+_, _<_, _≤_}
 use native.Mathlib.Omega.{arith}
-use lib.ListN.{length, length-append}
-use Rattle.calculus.specs.Lists.{keep, each, among, distinct}
+use lib.ListN.{length}
+use Rattle.calculus.specs.Lists.{each, among, distinct}
 use Rattle.calculus.specs.Term.{Term, Program, Codebase, Scoped, Defined, PlacedCode, codebase, records, size, definitionRecords, programRecords}
 use Rattle.calculus.specs.Term.Term.{var, fun, con, lam, app, callEvent, emit, sum, branch}
 use Rattle.calculus.specs.Guideline.{Guideline, Clause}
-use Rattle.calculus.specs.Rewriting.{logevents, triggers, logged, noted, instrument, rewriteFrom, rewrite}
-use Rattle.calculus.proofs.Growth.{rewrite-grows}
+use Rattle.calculus.specs.Rewriting.{logevents, logged, noted, instrument, rewriteFrom, rewrite}
+use Rattle.calculus.proofs.Growth.{rewrite-grows, functions-most}
 use Rattle.calculus.proofs.Size.{size-most}
 use Rattle.calculus.proofs.Placed.{rewritten-placed}
 use Rattle.calculus.proofs.Demand3.{rewritten-codebase, codebase-bare}
@@ -24,7 +24,7 @@ use Rattle.script.proofs.Names.{bodies-below, below-bodies}
 use Rattle.script.proofs.Program.{numbered, file-encode, ProgramIs, read-program}
 use Rattle.script.proofs.Accepted.{formed-fits, program-accepted}
 use Rattle.guideline.specs.Read.{guidelineOf}
-use Rattle.guideline.specs.WithinLimits.{WithinLimits, ClauseInRange}
+use Rattle.guideline.specs.WithinLimits.{WithinLimits}
 use Rattle.guideline.proofs.Accepted.{accepted-within}
 use Rattle.guideline.proofs.Functions.{Defined as Below, verdict-file}
 use Rattle.rewriting.specs.Answer.{writtenFile}
@@ -103,9 +103,9 @@ defined-more C C′ h (emit n a r) d = (defined-more C C′ h a (d .0), defined-
 defined-more C C′ h (sum a b) d = (defined-more C C′ h a (d .0), defined-more C C′ h b (d .1))
 defined-more C C′ h (branch c a b) d = (defined-more C C′ h c (d .0), defined-more C C′ h a (d .1), defined-more C C′ h b (d .2))
 
--- ---- at most 1,120 records
+-- ---- at most 1,296 records
 
--- Each once is no more, …
+-- Each once is no more.
 distinct-fewer : (ns : List ℕ) → length (distinct ns) ≤ length ns
 unfolding distinct
 distinct-fewer [] = omega arith
@@ -115,45 +115,27 @@ distinct-fewer (n ∷ ns) = on (among n ns) (distinct-fewer ns)
     on true h = omega arith
     on false h = omega arith
 
--- … nor is a selection.
-keep-fewer : (p : ℕ → Bool) (ns : List ℕ) → length (keep p ns) ≤ length ns
-unfolding keep
-keep-fewer p [] = omega arith
-keep-fewer p (n ∷ ns) = on (p n) (keep-fewer p ns)
-  where
-    on : (b : Bool) → length (keep p ns) ≤ length ns → length (cond b (n ∷ keep p ns) (keep p ns)) ≤ suc (length ns)
-    on true h = omega arith
-    on false h = omega arith
-
 -- One logged function to a clause.
 one-each : (cs : List Clause) → length (each (λ (c : Clause). c .function ∷ []) cs) ≡ length cs
 unfolding each
 one-each [] = refl
 one-each (c ∷ cs) = ap suc (one-each cs)
 
--- At most four triggers.
-four-each : (cs : List Clause) → ((c : Clause) → List·Memᴰ c cs → ClauseInRange c) → length (each (λ (c : Clause). c .triggers) cs) ≤ 4 * length cs
-unfolding each
-four-each [] h = omega arith
-four-each (c ∷ cs) h =
-    omega (arith, length-append (c .triggers) (each (λ (c : Clause). c .triggers) cs), h c (List·Memᴰ·head refl) .few, four-each cs (λ x m. h x (List·Memᴰ·tail m)))
-
 -- ---- the rewritten program
 
 module _ (G : Guideline) (S : Program) (h : WellFormed Rewriting S) (w : WithinLimits G) (d : Below (length (S .definitions)) G) where
-  -- 8 clauses, with one logged function and four triggers each, add at most 96 records.
-  rewritten-short : programRecords (rewrite G S) ≤ 1120
-  unfolding logevents triggers
+  -- At most 128 functions gain two records, and at most 8 of them, the logged ones, two more.
+  rewritten-short : programRecords (rewrite G S) ≤ 1296
+  unfolding logevents
   rewritten-short =
       omega (
         arith,
         rewrite-grows G S (d .0) (d .1),
+        functions-most G (length (S .definitions)) (d .0) (d .1),
         distinct-fewer (logevents G),
-        keep-fewer (λ f. not (logged G f)) (distinct (triggers G)),
-        distinct-fewer (triggers G),
         one-each (G .clauses),
-        four-each (G .clauses) (w .clauses),
         w .fewClauses,
+        h .few,
         h .short,
       )
 

@@ -1,7 +1,7 @@
 -- The marks: a turn of the loop that reads them, and what they are by the guideline. Assumes nothing.
 use mathlib.Core.Bool.{Bool, true, false, cond, _&&_, _||_}
-use mathlib.Core.List.{List, [], _∷_, List·Memᴰ, List·Memᴰ·head, List·Memᴰ·eq-of-singleton}
-use mathlib.Core.Logic.{_⊎_, inl, inr}
+use mathlib.Core.List.{List, [], _∷_, _++_, List·Memᴰ, List·Memᴰ·head, List·Memᴰ·not-nil, List·Memᴰ·eq-of-singleton, List·Memᴰ·append-cases, Memᴰ·append-left, Memᴰ·append-right}
+use mathlib.Core.Logic.{_⊎_, inl, inr, ⊎-elim}
 use mathlib.Core.Path.{_≡_, refl, sym, ap, _∙_}
 use Prim.Native.Nat.{ℕ, zero, suc, _+_, _-_, _<_, _≤_}
 use native.Mathlib.Omega.{arith}
@@ -10,14 +10,16 @@ use lib.Dec.{T, eqb}
 use lib.ListN.{getD, set, replicate, length-set, length-replicate, getD-replicate}
 use lib.Seq.{getD-set-same, getD-set-other}
 use borrow.Author.Tests.{eqb-true, eqb-false, eq-eqb, ne-eqb, lt-ltb, le-ltb}
-use Rattle.calculus.specs.Lists.{among}
-use Rattle.calculus.specs.Guideline.{Guideline, Clause}
-use Rattle.calculus.specs.Rewriting.{logevents, triggers, logged, noted}
+use Rattle.calculus.specs.Lists.{each, among}
+use Rattle.calculus.specs.Guideline.{Guideline, Condition, Clause}
+use Rattle.calculus.specs.Guideline.Condition.{before, related, equal, differing, noneSince}
+use Rattle.calculus.specs.Rewriting.{logevents, takenBack, watched, triggers, logged, noted}
 use Rattle.calculus.proofs.Lists.{T-true, true-T, same-T, and-both, both-and, or-cases, or-left, or-right, each-into, each-from, among-into, among-from}
-use Rattle.guideline.specs.Record.{count, kindAt as kindOf, firstNumber}
-use Rattle.guideline.specs.Encode.{encodeFunction}
+use Rattle.guideline.specs.Record.{count, kindAt as kindOf, firstAt, firstNumber}
+use Rattle.guideline.specs.Read.{conditionAt}
+use Rattle.guideline.specs.Encode.{encodeFunction, encodeCondition}
 use Rattle.guideline.specs.Check.{isKind}
-use Rattle.guideline.proofs.At.{TriggerAt}
+use Rattle.guideline.proofs.At.{TriggerAt, ConditionAt, since-read}
 use Rattle.guideline.proofs.Blocks.{Among, blocks-member, at-moves}
 use Rattle.guideline.proofs.Standing.{ClauseAt, Standing, clause-moves}
 use Rattle.guideline.proofs.Place.{Place, place}
@@ -51,6 +53,20 @@ module _ {g : List ℕ} {i : ℕ} {ms : List ℕ} (h : Marks g i ms) {f : ℕ} (
   pub marks-past : 128 ≤ f → Marks g (i + 1) ms
   unfolding markBelow
   marks-past l = record { size = h .size; mark = λ x m. rw (add-one i, ne-eqb (firstNumber g i) x (λ z. omega arith)) (h .mark x m) }
+
+-- ---- one record's mark
+
+-- Kinds 5 and 9 leave the mark of a logged function …
+pub later-logged : (m k : ℕ) → (k ≡ 5) ⊎ (k ≡ 9) → m ≡ 4 → 4 ≡ later m k
+unfolding later
+later-logged m k (inl e) h = rw (e, h)
+later-logged m k (inr e) h = rw (e, h)
+
+-- … and mark any other.
+pub later-noted : (m k : ℕ) → (k ≡ 5) ⊎ (k ≡ 9) → (m ≡ 4 → ⊥) → 2 ≡ later m k
+unfolding later
+later-noted m k (inl e) h = rw (e, ne-eqb m 4 h)
+later-noted m k (inr e) h = rw (e, ne-eqb m 4 h)
 
 -- ---- their sum
 
@@ -94,7 +110,7 @@ module _ (ms s : List ℕ) (i : ℕ) where
 unfoldable pub gainOf : Guideline → ℕ → ℕ
 gainOf G f = cond (logged G f) 4 (cond (noted G f) 2 0)
 
--- The mark of a function that some record of kind 4, and that some record of kind 5 names.
+-- The mark of a function that some record of kind 4, and that some record of kind 5 or 9 names.
 byBoth : Bool → Bool → ℕ
 byBoth x y = cond x 4 (cond y 2 0)
 
@@ -105,19 +121,29 @@ module _ (g : List ℕ) (f : ℕ) where
   named k (suc n) = (eqb (firstNumber g n) f && isKind g k n) || named k n
 
   -- The mark by the kinds that name the function.
-  mark-named : (n : ℕ) → markBelow g f n ≡ byBoth (named 4 n) (named 5 n)
+  mark-named : (n : ℕ) → markBelow g f n ≡ byBoth (named 4 n) (named 5 n || named 9 n)
   unfolding markBelow named later byBoth
   mark-named zero = refl
-  mark-named (suc n) = rw (mark-named n) (on (eqb (firstNumber g n) f) (isKind g 4 n) (isKind g 5 n) (named 4 n) (named 5 n))
+  mark-named (suc n) = rw (mark-named n) (on (eqb (firstNumber g n) f) (isKind g 4 n) (isKind g 5 n) (isKind g 9 n) (named 4 n) (named 5 n) (named 9 n))
     where
-      on : (a b c x y : Bool)
-          → cond a (cond b 4 (cond c (cond (eqb (byBoth x y) 4) 4 2) (byBoth x y))) (byBoth x y) ≡ byBoth ((a && b) || x) ((a && c) || y)
-      on false b c x y = refl
-      on true true c x y = refl
-      on true false false x y = refl
-      on true false true true y = refl
-      on true false true false true = refl
-      on true false true false false = refl
+      again : (c d y z : Bool) → ((true && c) || y) || ((true && d) || z) ≡ (c || d) || (y || z)
+      again true d y z = refl
+      again false true true z = refl
+      again false true false z = refl
+      again false false y z = refl
+
+      other : (o x y : Bool) → cond o (cond (eqb (byBoth x y) 4) 4 2) (byBoth x y) ≡ byBoth x (o || y)
+      other false x y = refl
+      other true true y = refl
+      other true false true = refl
+      other true false false = refl
+
+      on : (a b c d x y z : Bool)
+          → cond a (cond b 4 (cond (c || d) (cond (eqb (byBoth x (y || z)) 4) 4 2) (byBoth x (y || z)))) (byBoth x (y || z))
+          ≡ byBoth ((a && b) || x) (((a && c) || y) || ((a && d) || z))
+      on false b c d x y z = refl
+      on true true c d x y z = refl
+      on true false c d x y z = other (c || d) x (y || z) ∙ ap (byBoth x) (sym (again c d y z))
 
   -- Such a record, …
   named-from : (k n : ℕ) → T (named k n) → (j : ℕ) × (j < n) × (firstNumber g j ≡ f) × (kindOf g j ≡ k)
@@ -181,10 +207,10 @@ module _ (g : List ℕ) (f : ℕ) where
         from : T (among f (logevents G)) → T (named 4 (count g))
         from t = let (c, k, o) = each-from (λ (c : Clause). c .function ∷ []) (G .clauses) (among-from f (logevents G) t) in found c (List·Memᴰ·eq-of-singleton o) (stands c k)
 
-    -- The triggers are those that records of kind 5 name.
-    trigger-named : named 5 (count g) ≡ among f (triggers G)
+    -- The triggers are those that records of kinds 5 and 9 name.
+    trigger-named : (named 5 (count g) || named 9 (count g)) ≡ among f (triggers G)
     unfolding triggers
-    trigger-named = same-T (named 5 (count g)) (among f (triggers G)) into from
+    trigger-named = same-T (named 5 (count g) || named 9 (count g)) (among f (triggers G)) into from
       where
         at : (j : ℕ) → firstNumber g j ≡ f → kindOf g j ≡ 5 → Place g G j → T (among f (triggers G))
         at j p q (aFact x i a) = let h = a .high in absurd (omega arith)
@@ -193,11 +219,23 @@ module _ (g : List ℕ) (f : ℕ) where
         at j p q (aLogged c m i b) = let h = b .head .high in absurd (omega arith)
         at j p q (aTrigger c h m i b u v x o a) =
             let e : x ≡ f = sym (a .is) ∙ p in
-            rw e at (among-into (each-into (λ (c : Clause). c .triggers) i o))
+            rw e at (among-into (each-into watched i (Memᴰ·append-left (each takenBack (c .conditions)) o)))
         at j p q (aCondition c h m i b u v x o a) = let l = a .low in absurd (omega arith)
 
-        into : T (named 5 (count g)) → T (among f (triggers G))
-        into t = let (j, l, p, q) = named-from 5 (count g) t in at j p q (place g G j s l)
+        at-nine : (j : ℕ) → firstNumber g j ≡ f → kindOf g j ≡ 9 → Place g G j → T (among f (triggers G))
+        at-nine j p q (aFact x i a) = let h = a .high in absurd (omega arith)
+        at-nine j p q (aHead r m i b) = let h = b .head .high in absurd (omega arith)
+        at-nine j p q (anAtom r h m i b u v x a) = let l = a .high in absurd (omega arith)
+        at-nine j p q (aLogged c m i b) = let h = b .head .high in absurd (omega arith)
+        at-nine j p q (aTrigger c h m i b u v x o a) = let l = a .high in absurd (omega arith)
+        at-nine j p q (aCondition c h m i b u v x o a) =
+            let e : x ≡ noneSince (firstAt g j) f = sym (a .is) ∙ rw (q, p) in
+            among-into (each-into watched i (Memᴰ·append-right (c .triggers) (each-into takenBack (rw e at o) (List·Memᴰ·head refl))))
+
+        into : T (named 5 (count g) || named 9 (count g)) → T (among f (triggers G))
+        into t =
+            ⊎-elim (λ u. let (j, l, p, q) = named-from 5 (count g) u in at j p q (place g G j s l)) (λ u. let (j, l, p, q) = named-from 9 (count g) u in at-nine j p q (place g G j s l))
+            (or-cases (named 5 (count g)) (named 9 (count g)) t)
 
         found : (c : Clause) → List·Memᴰ f (c .triggers) → Among (ClauseAt g) (G .clauses) (s .clauseStart) (count g) c → T (named 5 (count g))
         found c m a =
@@ -206,8 +244,25 @@ module _ (g : List ℕ) (f : ℕ) where
             let u = t .block .high in
             named-into 5 (count g) (t .start) (t .block .inside) (t .block .is) (omega arith)
 
-        from : T (among f (triggers G)) → T (named 5 (count g))
-        from t = let (c, k, o) = each-from (λ (c : Clause). c .triggers) (G .clauses) (among-from f (triggers G) t) in found c o (stands c k)
+        taken : (c : Clause) (i : ℕ) → List·Memᴰ (noneSince i f) (c .conditions) → Among (ClauseAt g) (G .clauses) (s .clauseStart) (count g) c → T (named 9 (count g))
+        taken c i m a =
+            let t = blocks-member (ConditionAt g) (at-moves g 6 9 (conditionAt g) encodeCondition) (a .block .middle) (c .conditions) (a .stop) (a .block .conditions) (noneSince i f) m in
+            let r = since-read g (t .start) i f (t .block .is) in
+            named-into 9 (count g) (t .start) (t .block .inside) (r .1) (r .0)
+
+        from-nine : (c : Clause) (x : Condition) → List·Memᴰ x (c .conditions) → List·Memᴰ f (takenBack x) → Among (ClauseAt g) (G .clauses) (s .clauseStart) (count g) c → T (named 9 (count g))
+        from-nine c (before i j) m u a = absurd (List·Memᴰ·not-nil u)
+        from-nine c (related p i j) m u a = absurd (List·Memᴰ·not-nil u)
+        from-nine c (equal i j) m u a = absurd (List·Memᴰ·not-nil u)
+        from-nine c (differing i j) m u a = absurd (List·Memᴰ·not-nil u)
+        from-nine c (noneSince i h) m u a = taken c i (rw (sym (List·Memᴰ·eq-of-singleton u)) at m) a
+
+        from : T (among f (triggers G)) → T (named 5 (count g) || named 9 (count g))
+        from t =
+            let (c, k, o) = each-from watched (G .clauses) (among-from f (triggers G) t) in
+            ⊎-elim (λ m. or-left (named 5 (count g)) (named 9 (count g)) (found c m (stands c k)))
+            (λ m. let (x, i, u) = each-from takenBack (c .conditions) m in or-right (named 5 (count g)) (named 9 (count g)) (from-nine c x i u (stands c k)))
+            (List·Memᴰ·append-cases (c .triggers) o)
 
     -- A mark is what the function's body gains.
     pub mark-is : markBelow g f (count g) ≡ gainOf G f

@@ -1,6 +1,6 @@
 -- The marks of functions: the count of records that each one's body gains, 0, 2 or 4, read from a guideline's records. (In `machine` and above it
 -- a mark counts the commands before a body: 0, 1 or 2.) Assumes nothing.
-use mathlib.Core.Bool.{cond}
+use mathlib.Core.Bool.{cond, _||_}
 use mathlib.Core.List.{List}
 use mathlib.Core.Path.{_≡_}
 use Prim.Native.Nat.{ℕ, zero, suc, _+_, _<_}
@@ -9,8 +9,9 @@ use lib.ListN.{length, getD}
 use Rattle.guideline.specs.Record.{kindAt, firstNumber}
 
 -- "4 records more for each distinct logged function and 2 for each other trigger": a mark after a record of kind k that names the function.
+-- Kind 9 names one like a trigger.
 unfoldable pub later : ℕ → ℕ → ℕ
-later m k = cond (eqb k 4) 4 (cond (eqb k 5) (cond (eqb m 4) 4 2) m)
+later m k = cond (eqb k 4) 4 (cond (eqb k 5 || eqb k 9) (cond (eqb m 4) 4 2) m)
 
 -- The mark of function f after the first n records.
 unfoldable pub markBelow : List ℕ → ℕ → ℕ → ℕ

@@ -31,13 +31,14 @@ fn refused(v: Verdict) -> Rewritten
 
 // ---- what each function gains
 
-// A function's mark after a guideline record of that kind that names it: 4 records gained by a logged function, 2 by any other trigger.
+// A function's mark after a guideline record of that kind that names it: 4 records gained by a logged function, 2 by any other trigger, as
+// which the function of kind 9 counts.
 fn marked(mark: u8, kind: u8) -> u8
     ensures { λ r. ⌜ r ≡ later mark kind ⌝ }
 {
     match kind {
         4 => 4,
-        5 => if mark == 4 { 4 } else { 2 },
+        5 | 9 => if mark == 4 { 4 } else { 2 },
         _ => mark,
     }
 }

@@ -114,7 +114,7 @@ neither true b c e = let z : _≡_ {A = ℕ} 0 1 = cc in absurd (omega arith)
 neither false true c e = let z : _≡_ {A = ℕ} 0 1 = cc in absurd (omega arith)
 neither false false c e = e
 
-most : (u : Purpose) → mostRecords u ≤ 1120
+most : (u : Purpose) → mostRecords u ≤ 1296
 most Checking = omega arith
 most Rewriting = omega arith
 most PlainRun = omega arith
@@ -143,7 +143,7 @@ module _ (u : Purpose) (s : List ℕ) where
       past1 = refuse-not 1 from2 (sym e1 ∙ ap dueIf o)
 
       -- It is not: the records are few.
-      pub records-few : count s ≤ 1120
+      pub records-few : count s ≤ 1296
       records-few =
           let f = not-due (eqb (length s) 0 || (not (eqb (length s % 8) 0) || ltb (mostRecords u) (count s))) (sym e1 ∙ ap dueIf o) in
           let l : count s ≤ mostRecords u =

@@ -64,7 +64,7 @@ fn most_records(purpose: Purpose) -> usize
         Purpose::Checking => 1024,
         Purpose::Rewriting => 1024,
         Purpose::PlainRun => 1024,
-        Purpose::RewrittenRun => 1120,
+        Purpose::RewrittenRun => 1296,
     }
 }
 

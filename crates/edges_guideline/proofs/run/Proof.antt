@@ -26,8 +26,8 @@ derive-requires c κs = search needs
 print-verdict-requires : tie.Need-print-verdict-requires
 print-verdict-requires c κs = search needs
 
-slice-aggregate-check : tie.Need-slice-aggregate-check
-slice-aggregate-check c = search needs
+define-requires : tie.Need-define-requires
+define-requires c κs = search needs
 
 check-requires : tie.Need-check-requires
 check-requires c κs = search needs
@@ -61,7 +61,7 @@ run-spec =
     slice-aggregate-derive
     derive-requires
     print-verdict-requires
-    slice-aggregate-check
+    define-requires
     check-requires
     print-verdict-requires-2
     array-read-wide
