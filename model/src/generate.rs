@@ -1,17 +1,20 @@
 //! Seeded cases: valid scripts and guidelines, rewritten scripts and scripts with other commands,
-//! damaged files, long histories, budgets and lengths of buffers. The same seed gives the same case.
+//! damaged files, long histories, overrides taken back, budgets and lengths of buffers. The same
+//! seed gives the same case.
 
 mod commands;
 mod guidelines;
 mod histories;
+mod overrides;
 mod scripts;
 
 pub use commands::{commands, damage_command};
 pub use guidelines::guideline;
 pub use histories::{affordable, history};
+pub use overrides::{damage_cancel, overrides, widest};
 pub use scripts::script;
 
-use crate::{rewrite, BUDGET, EXPRESSION, HISTORY, LOG, SCRATCH, TABLE};
+use crate::{rewrite, BUDGET, EXPRESSION, HISTORY, LOG, REWRITTEN, SCRATCH, TABLE};
 use std::collections::BTreeSet;
 
 /// Random numbers by SplitMix64.
@@ -66,15 +69,16 @@ pub struct Case {
 }
 
 impl Case {
-    /// A script as it is, rewritten under its guideline or another one, with commands made by
-    /// hand, bad or with a bad guideline.
+    /// A script as it is, rewritten under its guideline, an earlier or another one, with commands
+    /// made by hand, bad or with a bad guideline.
     pub fn new(seed: u64) -> Case {
         let rng = &mut Rng(seed);
         let (mut script, mut guideline) = files(rng);
         let needed = rewritten(&script, &guideline).len();
-        let form = rng.below(22);
+        let form = rng.below(24);
         match form {
-            0..=3 | 8 | 11 | 18 => script = rewritten(&script, &guideline),
+            0..=3 | 8 | 11 | 18 | 22 => script = rewritten(&script, &guideline),
+            13 => script = rewritten(&script, &without_cancels(&guideline)),
             4 => {
                 let other = self::guideline(rng, functions(&script), Counts::Valid);
                 script = rewritten(&script, &other);
@@ -90,6 +94,7 @@ impl Case {
             9 => guideline = self::guideline(rng, functions(&script), Counts::OneTooMany),
             10 | 11 => damage(rng, &mut guideline, 16),
             21 => (0..rng.pick(&[2, 3])).for_each(|_| damage(rng, &mut guideline, 16)),
+            22 | 23 => (0..rng.pick(&[1, 1, 2])).for_each(|_| damage_cancel(rng, &mut guideline)),
             16 | 17 | 19 => script = commands(rng, &script),
             _ => {}
         }
@@ -151,9 +156,21 @@ impl Case {
 
 /// A valid script without commands and a valid guideline for it.
 pub fn files(rng: &mut Rng) -> (Vec<u8>, Vec<u8>) {
-    let script = script(rng, Counts::Valid);
-    let guideline = guideline(rng, functions(&script), Counts::Valid);
-    (script, guideline)
+    match rng.below(40) {
+        0 | 1 => widest(rng),
+        2..=12 => overrides(rng),
+        _ => {
+            let script = script(rng, Counts::Valid);
+            let guideline = guideline(rng, functions(&script), Counts::Valid);
+            (script, guideline)
+        }
+    }
+}
+
+/// The guideline without its conditions of kind 9: the commands that it asks for lack those of
+/// functions that only these name.
+fn without_cancels(guideline: &[u8]) -> Vec<u8> {
+    guideline.chunks(16).filter(|record| record[0] != 9).flatten().copied().collect()
 }
 
 fn functions(script: &[u8]) -> usize {
@@ -161,7 +178,7 @@ fn functions(script: &[u8]) -> usize {
 }
 
 fn rewritten(script: &[u8], guideline: &[u8]) -> Vec<u8> {
-    let mut out = vec![0; 8 * 1_120];
+    let mut out = vec![0; REWRITTEN];
     let (_, count) = rewrite(script, guideline, &mut out);
     out.truncate(8 * count as usize);
     out
@@ -171,8 +188,14 @@ fn rewritten(script: &[u8], guideline: &[u8]) -> Vec<u8> {
 /// the plain search for triggers or steps on long terms busy for long.
 pub fn budget(rng: &mut Rng, script: &[u8], guideline: &[u8]) -> u64 {
     let kinds: Vec<u8> = guideline.chunks(16).map(|record| record[0]).collect();
-    let triggers = kinds.split(|kind| *kind != 5).map(<[u8]>::len).max().unwrap_or(0);
-    let search = [BUDGET, BUDGET, 300, 60, 30][triggers.min(4)];
+    let most = |kind: u8| kinds.split(|other| *other != kind).map(<[u8]>::len).max().unwrap_or(0);
+    // Each condition of kind 9 walks through the history for each choice.
+    let searches = match most(9) {
+        0 => [BUDGET, BUDGET, 300, 60, 30],
+        1..=10 => [BUDGET, 4_000, 200, 50, 30],
+        _ => [BUDGET, 100, 50, 30, 30],
+    };
+    let search = searches[most(5).min(4)];
     let steps = if script.len() > 8 * 64 { 4_000 } else { BUDGET };
     let most = search.min(steps);
     match rng.below(12) {
@@ -234,7 +257,7 @@ pub fn damage(rng: &mut Rng, file: &mut Vec<u8>, size: usize) {
     }
     let at = place(rng, file, size);
     let other = rng.below(count) * size;
-    match rng.below(12) {
+    match rng.below(13) {
         0 => {
             let any = rng.below(file.len());
             file[any] = rng.word() as u8;
@@ -250,14 +273,15 @@ pub fn damage(rng: &mut Rng, file: &mut Vec<u8>, size: usize) {
             // An abstraction may be repeated until the script is too long.
             let at = of_kind(rng, file, size, 4).unwrap_or(at);
             let edges: &[usize] =
-                if size == 8 { &[1_024, 1_025, 1_120, 1_121] } else { &[256, 257] };
+                if size == 8 { &[1_024, 1_025, 1_296, 1_297] } else { &[256, 257] };
             let missing = rng.pick(edges).saturating_sub(count);
-            let records = file[at..at + size].repeat(rng.pick(&[1, 4, missing]));
+            let records = file[at..at + size].repeat(rng.pick(&[1, 4, missing, missing]));
             file.splice(at..at, records);
         }
         6 => file[at] = rng.below(12) as u8,
         7 | 8 => file[at + 1 + rng.below(3)] = rng.below(6) as u8,
         9 | 10 => renumber(rng, file, size),
+        11 => file[at + size / 2 + rng.below(size / 2)] = rng.pick(&[1, 255]),
         _ => {
             let more = 1 + rng.below(2 * size);
             file.extend(rng.bytes(more));

@@ -28,7 +28,8 @@ pub struct Clause {
     pub conditions: Vec<Condition>,
 }
 
-/// "Bytes 2, 3 are i and j, from 0 to the clause's trigger count"; 0 is the logged call.
+/// "Bytes 2, 3 are i and j, from 0 to the clause's trigger count"; 0 is the logged call. Kind 9 has
+/// an i alone; its byte 3 is zero, and so is `j`.
 pub struct Condition {
     pub test: Test,
     pub i: usize,
@@ -36,12 +37,25 @@ pub struct Condition {
 }
 
 /// "6 condition t_i < t_j; 7 condition predicate (byte 1) of x_i, x_j; 8 condition x_i equals x_j
-/// (byte 1 is 0) or differs (1)."
+/// (byte 1 is 0) or differs (1)." And Item 2: "Guideline kind 9 is a condition: bytes 4 to 7 a
+/// function h, byte 2 an i as in kind 6."
 pub enum Test {
     Before,
     Predicate(usize),
     Equal,
     Differ,
+    /// Of this h, strictly between t_i and t_0.
+    NoCall(u32),
+}
+
+impl Clause {
+    /// The i and the h of each kind 9 condition.
+    pub fn cancels(&self) -> impl Iterator<Item = (usize, u32)> + '_ {
+        self.conditions.iter().filter_map(|condition| match condition.test {
+            Test::NoCall(h) => Some((condition.i, h)),
+            _ => None,
+        })
+    }
 }
 
 #[derive(Default)]
@@ -87,13 +101,14 @@ impl Record<'_> {
             6 => self.0[1] == 0 && both(0, 4) && zero(4, 16),
             7 => self.0[1] <= 15 && both(0, 4) && zero(4, 16),
             8 => self.0[1] <= 1 && both(0, 4) && zero(4, 16),
+            9 => self.0[1] == 0 && self.0[2] <= 4 && self.0[3] == 0 && zero(8, 16),
             _ => false,
         }
     }
 }
 
 /// "Three sections: facts, rules, logged clauses." The kinds in a row are
-/// `1* (2 3+)* (4 5* (6|7|8)*)*`; whether a kind may stand after the one before.
+/// `1* (2 3+)* (4 5* (6|7|8|9)*)*`; whether a kind may stand after the one before.
 fn may_follow(before: Option<u8>, kind: u8) -> bool {
     match kind {
         1 => matches!(before, None | Some(1)),
@@ -101,13 +116,13 @@ fn may_follow(before: Option<u8>, kind: u8) -> bool {
         3 => matches!(before, Some(2 | 3)),
         4 => before != Some(2),
         5 => matches!(before, Some(4 | 5)),
-        _ => matches!(before, Some(4..=8)),
+        _ => matches!(before, Some(4..=9)),
     }
 }
 
 impl Guideline {
-    /// Each number "is tested over the whole file before the next number"; 17 where the count of
-    /// the script's functions is given.
+    /// Each number "is tested over the whole file before the next number"; 17, which covers heads,
+    /// triggers and the h of kind 9, where the count of the script's functions is given.
     pub fn read(bytes: &[u8], functions: Option<usize>) -> Result<Guideline, Verdict> {
         refuse_if(11, !bytes.len().is_multiple_of(16) || bytes.len() / 16 > 256)?;
         let records: Vec<Record> = bytes.chunks(16).map(Record).collect();
@@ -118,7 +133,7 @@ impl Guideline {
         refuse(16, above_triggers(&records))?;
         if let Some(count) = functions {
             let unknown = |record: &Record| record.number(4) as usize >= count;
-            let names = |record: &Record| matches!(record.kind(), 4 | 5) && unknown(record);
+            let names = |record: &Record| matches!(record.kind(), 4 | 5 | 9) && unknown(record);
             refuse(17, records.iter().position(names))?;
         }
         Ok(Guideline::parse(&records))
@@ -144,8 +159,9 @@ impl Guideline {
                     let test = match (kind, record.small(1)) {
                         (6, _) => Test::Before,
                         (7, predicate) => Test::Predicate(predicate),
-                        (_, 0) => Test::Equal,
-                        _ => Test::Differ,
+                        (8, 0) => Test::Equal,
+                        (8, _) => Test::Differ,
+                        _ => Test::NoCall(record.number(4)),
                     };
                     let condition = Condition { test, i: record.small(2), j: record.small(3) };
                     guideline.clauses.last_mut().unwrap().conditions.push(condition);
@@ -198,7 +214,7 @@ fn one_too_many(records: &[Record]) -> Option<usize> {
     })
 }
 
-/// "16 i or j above the trigger count."
+/// "16 i or j above the trigger count", the i of kind 9 too.
 fn above_triggers(records: &[Record]) -> Option<usize> {
     let mut triggers = 0;
     records.iter().position(|record| {

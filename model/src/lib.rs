@@ -1,9 +1,10 @@
-//! A plain model of document 01 and of Item 1 of document 02, written from their sentences alone.
+//! A plain model of document 01 and of Items 1 and 2 of document 02, written from their sentences
+//! alone.
 //!
 //! It is naive on purpose: terms are trees, predicates are worked out in rounds, triggers are
 //! searched one by one. The functions below mirror the engine's entries on byte slices. Quoted
-//! sentences are document 01's and, on sums and branches, Item 1's; "decision n" is an item of the
-//! first list in docs/DECISIONS.md.
+//! sentences are document 01's and, on sums and branches, Item 1's, on guideline kind 9 Item 2's;
+//! "decision n" is an item of the first list in docs/DECISIONS.md.
 
 pub mod demand;
 pub mod generate;
@@ -25,6 +26,9 @@ pub const SCRATCH: usize = 24_576;
 pub const HISTORY: usize = 16_384;
 pub const LOG: usize = 16_384;
 pub const TABLE: usize = 8_192;
+
+/// The longest output of rewriting: "a rewritten script has up to 1,296 records".
+pub const REWRITTEN: usize = 8 * 1_296;
 
 /// "22 budget above 1,000,000."
 pub const BUDGET: u64 = 1_000_000;

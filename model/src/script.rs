@@ -82,8 +82,9 @@ impl Record {
 impl Script {
     /// Each number "is tested over the whole file before the next number".
     pub fn read(bytes: &[u8], commands: Commands) -> Result<Script, Verdict> {
-        // "It has 1 to 1,024 records; the rewritten run alone takes up to 1,120."
-        let most = if commands == Commands::Allowed { 1_120 } else { 1_024 };
+        // "It has 1 to 1,024 records; the rewritten run alone takes up to" 1,296: with Item 2 "a
+        // rewritten script has up to 1,296 records".
+        let most = if commands == Commands::Allowed { 1_296 } else { 1_024 };
         refuse_if(1, bytes.is_empty() || !bytes.len().is_multiple_of(8) || bytes.len() / 8 > most)?;
 
         let records: Vec<Record> = bytes.chunks(8).map(Record::read).collect();

@@ -1,13 +1,14 @@
 //! The model on generated cases: what refusals and answers leave in lent bytes, that the cases
-//! reach every number, every outcome and all that sums and branches can come to, and demand 3.
+//! reach every number, every outcome and all that sums, branches and kind 9 can come to, and
+//! demand 3.
 
 use model::demand::{demand_3, Ended};
 use model::generate::{budget, files, Case, Rng};
-use model::reached;
+use model::reached::{sums, taken_back};
 use model::*;
 use std::collections::{BTreeMap, BTreeSet};
 
-const CASES: u64 = 6_000;
+const CASES: u64 = 8_000;
 
 /// Lent buffers, with the same noise for the same length.
 fn lend<const N: usize>(lengths: [usize; N]) -> [Vec<u8>; N] {
@@ -23,13 +24,14 @@ fn untouched<const N: usize>(seed: u64, verdict: Verdict, lent: &[Vec<u8>; N], s
     }
 }
 
-/// "The output has 4 records more for each distinct logged function and 2 for each other trigger."
+/// "The output has 4 records more for each distinct logged function and 2 for each other trigger",
+/// the h of a kind 9 condition among them.
 fn more_records(guideline: &[u8]) -> u32 {
-    let of_kind = |kind: u8| -> BTreeSet<&[u8]> {
-        let records = guideline.chunks(16).filter(|record| record[0] == kind);
+    let of_kinds = |kinds: &[u8]| -> BTreeSet<&[u8]> {
+        let records = guideline.chunks(16).filter(|record| kinds.contains(&record[0]));
         records.map(|record| &record[4..8]).collect()
     };
-    let (logged, triggers) = (of_kind(4), of_kind(5));
+    let (logged, triggers) = (of_kinds(&[4]), of_kinds(&[5, 9]));
     (4 * logged.len() + 2 * triggers.difference(&logged).count()) as u32
 }
 
@@ -43,7 +45,7 @@ fn passes(script: &[u8]) -> bool {
 }
 
 /// How often each number and each outcome of each entry was seen, how many log entries, and what
-/// sums and branches came to.
+/// sums, branches and kind 9 came to.
 #[derive(Default)]
 struct Seen {
     numbers: BTreeMap<(&'static str, u32), u32>,
@@ -62,7 +64,7 @@ impl Seen {
         *self.outcomes.entry((entry, outcome)).or_default() += 1;
     }
 
-    fn reached(&mut self, classes: BTreeSet<&'static str>) {
+    fn reached(&mut self, classes: impl IntoIterator<Item = &'static str>) {
         for class in classes {
             *self.reached.entry(class).or_default() += 1;
         }
@@ -73,10 +75,11 @@ impl Seen {
 fn records(seed: u64, case: &Case, seen: &mut Seen) -> Vec<u8> {
     let (script, guideline) = (&case.script, &case.guideline);
     let verdict = check(script, guideline);
-    seen.reached(reached::file(script, verdict));
+    seen.reached(sums::file(script, verdict));
+    seen.reached(taken_back::file(script, guideline, verdict));
     if seen.number("check", verdict) {
         assert!(passes(script), "seed {seed}: the term reader");
-        seen.reached(reached::steps(script, case.budget).classes);
+        seen.reached(sums::steps(script, case.budget).classes);
     }
 
     let mut lent = lend([case.out]);
@@ -85,12 +88,14 @@ fn records(seed: u64, case: &Case, seen: &mut Seen) -> Vec<u8> {
     if seen.number("rewrite", verdict) {
         let wanted = script.len() as u32 / 8 + more_records(guideline);
         assert_eq!(count, wanted, "seed {seed}: the count of records");
+        seen.reached(taken_back::written(count));
     }
 
     let mut lent = lend([case.table]);
     let verdict = derive(guideline, &mut lent[0]);
     untouched(seed, verdict, &lent, [TABLE]);
     seen.number("derive", verdict);
+    seen.reached(taken_back::derived(script, guideline, verdict));
     let [derived] = lent;
     derived
 }
@@ -111,6 +116,10 @@ fn runs(seed: u64, case: &Case, derived: &[u8], seen: &mut Seen) {
     let (verdict, outcome, _, _, count) =
         run_rewritten(script, guideline, budget, expression, scratch, history, log, table);
     untouched(seed, verdict, &lent, [EXPRESSION, SCRATCH, HISTORY, LOG, TABLE]);
+    seen.reached(taken_back::run(script, verdict));
+    if budget <= BUDGET {
+        seen.reached(taken_back::logged_calls(script, guideline, budget));
+    }
     if seen.number("rewritten", verdict) {
         assert!(lent[4][..TABLE] == derived[..TABLE], "seed {seed}: the tables differ");
         seen.outcome("rewritten", outcome);
@@ -126,9 +135,9 @@ fn entries() {
         let derived = records(seed, &case, &mut seen);
         runs(seed, &case, &derived, &mut seen);
     }
-    let Seen { numbers, outcomes, logged, reached: sums } = seen;
+    let Seen { numbers, outcomes, logged, reached } = seen;
     println!("numbers {numbers:?}\noutcomes {outcomes:?}\nlog entries {logged}");
-    println!("sums and branches {sums:#?}");
+    println!("reached {reached:#?}");
 
     let script = 0..=7;
     let both = script.clone().chain(11..=17);
@@ -147,15 +156,17 @@ fn entries() {
         let seen = outcomes.keys().filter(|key| key.0 == entry).map(|key| key.1);
         assert!(seen.eq(all), "the outcomes of {entry}");
     }
-    for class in reached::FILES.iter().chain(&reached::STEPS) {
-        assert!(sums.contains_key(class), "not reached: {class}");
-    }
+    let sums = sums::FILES.iter().chain(&sums::STEPS);
+    let kind_9 = taken_back::FILES.iter().chain(&taken_back::LENGTHS).chain(&taken_back::CALLS);
+    let missing: Vec<_> =
+        sums.chain(kind_9).filter(|class| !reached.contains_key(*class)).collect();
+    assert!(missing.is_empty(), "not reached: {missing:?}");
 }
 
 /// What the rewritten run of a script under a guideline returns: outcome, steps, expression, log.
 fn rewritten_run(script: &[u8], guideline: &[u8], budget: u64) -> (u32, u32, Vec<u8>, Vec<u8>) {
     let [mut out, mut expression, mut scratch, mut history, mut log, mut table] =
-        lend([8 * 1_120, EXPRESSION, SCRATCH, HISTORY, LOG, TABLE]);
+        lend([REWRITTEN, EXPRESSION, SCRATCH, HISTORY, LOG, TABLE]);
     let (verdict, count) = rewrite(script, guideline, &mut out);
     assert_eq!(verdict, Verdict::default());
     let (verdict, outcome, steps, _, logged) = run_rewritten(
@@ -193,7 +204,7 @@ fn demand_3_of(shows: impl Iterator<Item = (Vec<u8>, Vec<u8>, u64)>) {
         assert!(log.is_empty() || holds(&Ended { log: &log[16..], ..ended }).is_err(), "log");
         full += u32::from(outcome == 4);
         logged += log.len() / 16;
-        let reached = reached::steps(&script, budget);
+        let reached = sums::steps(&script, budget);
         in_sums += among(&log, &reached.in_sums);
         in_arms += among(&log, &reached.in_arms);
     }

@@ -26,9 +26,10 @@ pub fn guideline(rng: &mut Rng, functions: usize, counts: Counts) -> Vec<u8> {
     }
     if functions > 0 {
         let most = rng.pick(&[0, 1, 2, 4]);
+        let kinds: &[u8] = rng.pick(&[&[6, 7, 7, 8, 8], &[6, 7, 8, 9, 9]]);
         for _ in 0..count(rng, 8, counts) {
             let triggers = count(rng, most, counts);
-            out.extend(clause(rng, functions, triggers, counts));
+            out.extend(clause(rng, functions, triggers, kinds, counts));
         }
     }
     // A fact may be repeated, up to 256 records in all.
@@ -100,25 +101,30 @@ fn rule(rng: &mut Rng, most: usize, variables: &[u8], counts: Counts) -> Vec<Rec
     rule
 }
 
-/// A head, its triggers and its conditions.
-fn clause(rng: &mut Rng, functions: usize, triggers: usize, counts: Counts) -> Vec<Record> {
+/// A head, its triggers and its conditions of these kinds.
+fn clause(
+    rng: &mut Rng,
+    functions: usize,
+    triggers: usize,
+    kinds: &[u8],
+    counts: Counts,
+) -> Vec<Record> {
     let above = |rng: &mut Rng| usize::from(counts == Counts::OneTooMany && rng.one_in(12));
-    let name = |rng: &mut Rng, kind: u8| {
+    let name = |rng: &mut Rng, kind: u8, i: u8| {
         let any = functions + above(rng);
-        record([kind, 0, 0, 0], [rng.below(any) as u32, 0])
+        record([kind, 0, i, 0], [rng.below(any) as u32, 0])
     };
-    let mut clause = vec![name(rng, 4)];
-    clause.extend((0..triggers).map(|_| name(rng, 5)));
+    let mut clause = vec![name(rng, 4, 0)];
+    clause.extend((0..triggers).map(|_| name(rng, 5, 0)));
     for _ in 0..rng.pick(&[0, 0, 1, 2, 3, 6]) {
-        let kind = rng.pick(&[6, 7, 7, 8, 8]);
-        let first = match kind {
-            6 => 0,
-            7 => predicate(rng),
-            _ => rng.below(2) as u8,
-        };
         let any = (triggers + above(rng)).min(4) + 1;
         let [i, j] = [0; 2].map(|_| rng.below(any) as u8);
-        clause.push(record([kind, first, i, j], [0, 0]));
+        clause.push(match rng.pick(kinds) {
+            6 => record([6, 0, i, j], [0, 0]),
+            7 => record([7, predicate(rng), i, j], [0, 0]),
+            8 => record([8, rng.below(2) as u8, i, j], [0, 0]),
+            _ => name(rng, 9, i),
+        });
     }
     clause
 }

@@ -5,7 +5,7 @@
 use super::guidelines::{closure, record, Record};
 use super::Rng;
 use crate::demand::calls;
-use crate::guideline::Clause;
+use crate::guideline::{Clause, Condition, Test};
 use crate::predicates::Predicates;
 use crate::read;
 use crate::runs::{choose, Call};
@@ -17,20 +17,14 @@ type Value = (u8, u32);
 
 /// A valid script without commands, a valid guideline for it, and how many steps are worth making.
 pub fn history(rng: &mut Rng) -> (Vec<u8>, Vec<u8>, u64) {
-    let sums = rng.pick(&[Sums::None, Sums::None, Sums::OfConstants, Sums::OfCalls]);
-    let kinds: &[u8] = if sums == Sums::OfCalls { &[3] } else { &[2, 3, 3, 4] };
-    let mut values = Vec::new();
-    for _ in 0..rng.pick(&[2, 3, 4]) {
-        values.push((rng.pick(kinds), rng.below(2) as u32));
-    }
-    let mut show = Show { rng, sums, counts: false, values, out: Vec::new() };
+    let mut show = Show::new(rng);
     let (named, steps) = match show.rng.below(18) {
         0 => show.growth(),
         1..=6 => show.tree(),
         _ => show.turns(),
     };
     let Show { rng, values, out, .. } = show;
-    (out, guideline(rng, named, &values), steps)
+    (out, guideline(rng, named, &values, [&[1, 2, 3, 4], &[6, 7, 8, 8, 9]]), steps)
 }
 
 /// Which sums and branches a show has: of constants alone, which are never stuck, or of what calls
@@ -43,16 +37,26 @@ enum Sums {
 }
 
 /// Writes a script over few values; the functions 0 and 1 are always defined.
-struct Show<'a> {
-    rng: &'a mut Rng,
+pub(super) struct Show<'a> {
+    pub(super) rng: &'a mut Rng,
     sums: Sums,
     /// Whether turns count in their parameter.
     counts: bool,
-    values: Vec<Value>,
-    out: Vec<u8>,
+    pub(super) values: Vec<Value>,
+    pub(super) out: Vec<u8>,
 }
 
 impl Show<'_> {
+    pub(super) fn new(rng: &mut Rng) -> Show<'_> {
+        let sums = rng.pick(&[Sums::None, Sums::None, Sums::OfConstants, Sums::OfCalls]);
+        let kinds: &[u8] = if sums == Sums::OfCalls { &[3] } else { &[2, 3, 3, 4] };
+        let mut values = Vec::new();
+        for _ in 0..rng.pick(&[2, 3, 4]) {
+            values.push((rng.pick(kinds), rng.below(2) as u32));
+        }
+        Show { rng, sums, counts: false, values, out: Vec::new() }
+    }
+
     /// Each function calls those after it, so that the calls of the last are many and the run ends.
     /// Returns how many functions the guideline may name, and the steps: where there are many
     /// functions it names the first, whose calls are few and late.
@@ -80,18 +84,12 @@ impl Show<'_> {
     /// Functions that main alone calls, functions that each turn calls; one to three more begin a
     /// turn, one after the other and without end. Returns the same as `tree`: where the guideline
     /// names only what main calls, short turns go on for long.
-    fn turns(&mut self) -> (usize, u64) {
+    pub(super) fn turns(&mut self) -> (usize, u64) {
         let called = 2 + self.rng.below(4);
         let once = self.rng.below(called);
         let loops = 1 + self.rng.below(3);
         self.counts = self.sums == Sums::OfCalls && self.rng.one_in(3);
-        for number in 0..called {
-            push(&mut self.out, 8, number as u32);
-            match self.rng.below(5) {
-                0 if number + 1 < called => self.sequence(&[number + 1], 1),
-                _ => self.leaf(1),
-            }
-        }
+        self.definitions(called);
         for turn in 0..loops {
             push(&mut self.out, 8, (called + turn) as u32);
             let length = self.rng.pick(&[1, 2, 4, 8, 24]);
@@ -128,8 +126,19 @@ impl Show<'_> {
         (2, 1_100)
     }
 
+    /// Defines functions some of which call the next.
+    pub(super) fn definitions(&mut self, functions: usize) {
+        for number in 0..functions {
+            push(&mut self.out, 8, number as u32);
+            match self.rng.below(5) {
+                0 if number + 1 < functions => self.sequence(&[number + 1], 1),
+                _ => self.leaf(1),
+            }
+        }
+    }
+
     /// Calls these functions in turn.
-    fn sequence(&mut self, functions: &[usize], around: usize) {
+    pub(super) fn sequence(&mut self, functions: &[usize], around: usize) {
         match functions {
             [last] if self.counts => self.count(*last, around),
             [last] if self.rng.one_in(8) => self.part(*last, around, self.sums),
@@ -233,7 +242,7 @@ impl Show<'_> {
     }
 
     /// A value, the definition's parameter, or what the call before returned.
-    fn leaf(&mut self, around: usize) {
+    pub(super) fn leaf(&mut self, around: usize) {
         match self.rng.below(6) {
             0 if around > 0 => push(&mut self.out, 1, 0),
             1 if around > 0 => push(&mut self.out, 1, around as u32 - 1),
@@ -248,8 +257,14 @@ impl Show<'_> {
     }
 }
 
-/// Facts on the script's values and one more, at times a closure, and one to three clauses.
-fn guideline(rng: &mut Rng, functions: usize, values: &[Value]) -> Vec<u8> {
+/// Facts on the script's values and one more, at times a closure, and one to three clauses with so
+/// many triggers and conditions of these kinds.
+pub(super) fn guideline(
+    rng: &mut Rng,
+    functions: usize,
+    values: &[Value],
+    [triggers, kinds]: [&[u8]; 2],
+) -> Vec<u8> {
     let mut out = Vec::new();
     let known = [values, &[(3, 9)]].concat();
     for _ in 0..rng.below(8) {
@@ -260,27 +275,30 @@ fn guideline(rng: &mut Rng, functions: usize, values: &[Value]) -> Vec<u8> {
         out.extend(closure());
     }
     for _ in 0..rng.pick(&[1, 1, 2, 3]) {
-        let triggers = 1 + rng.below(4);
-        out.extend(clause(rng, functions, triggers));
+        let triggers = rng.pick(triggers);
+        out.extend(clause(rng, functions, triggers.into(), kinds));
     }
     out.concat()
 }
 
-/// Conditions that each name two calls of the clause and are true of some.
-fn clause(rng: &mut Rng, functions: usize, triggers: usize) -> Vec<Record> {
-    let name = |rng: &mut Rng, kind: u8| record([kind, 0, 0, 0], [rng.below(functions) as u32, 0]);
-    let mut clause = vec![name(rng, 4)];
-    clause.extend((0..triggers).map(|_| name(rng, 5)));
+/// Conditions that each name two calls of the clause, or one and a function, and are true of some.
+fn clause(rng: &mut Rng, functions: usize, triggers: usize, kinds: &[u8]) -> Vec<Record> {
+    let name =
+        |rng: &mut Rng, kind: u8, i: u8| record([kind, 0, i, 0], [rng.below(functions) as u32, 0]);
+    let mut clause = vec![name(rng, 4, 0)];
+    clause.extend((0..triggers).map(|_| name(rng, 5, 0)));
     for _ in 0..rng.pick(&[0, 1, 2, 2, 3, 4]) {
         let later = 1 + rng.below(triggers);
         let [i, j] = [rng.below(later) as u8, later as u8];
         let exchanged = rng.one_in(4);
-        clause.push(match rng.below(4) {
-            0 if i == 0 || exchanged => record([6, 0, j, i], [0, 0]),
-            0 => record([6, 0, i, j], [0, 0]),
-            1 if exchanged => record([7, rng.below(2) as u8, j, i], [0, 0]),
-            1 => record([7, rng.below(2) as u8, i, j], [0, 0]),
-            _ => record([8, rng.below(2) as u8, i, j], [0, 0]),
+        clause.push(match rng.pick(kinds) {
+            6 if i == 0 || exchanged => record([6, 0, j, i], [0, 0]),
+            6 => record([6, 0, i, j], [0, 0]),
+            7 if exchanged => record([7, rng.below(2) as u8, j, i], [0, 0]),
+            7 => record([7, rng.below(2) as u8, i, j], [0, 0]),
+            8 => record([8, rng.below(2) as u8, i, j], [0, 0]),
+            // On the logged call it is always true.
+            _ => name(rng, 9, if exchanged { 0 } else { j }),
         });
     }
     clause
@@ -313,16 +331,18 @@ pub fn affordable(
         for clause in guideline.clauses.iter().filter(logged) {
             let fits = |chosen: &[Call]| {
                 let whole = chosen.len() > clause.triggers.len();
-                left.set(left.get().saturating_sub(if whole { 1 } else { last as u64 }));
-                let mut due = clause.conditions.iter().filter(|condition| {
-                    let level = condition.i.max(condition.j);
-                    if early {
-                        level + 1 == chosen.len()
-                    } else {
-                        whole
-                    }
-                });
-                left.get() > 0 && due.all(|condition| condition.holds(chosen, &predicates))
+                let look = |at: usize| left.set(left.get().saturating_sub(at as u64));
+                look(if whole { 1 } else { last });
+                let due = |condition: &&Condition| match early {
+                    true => condition.i.max(condition.j) + 1 == chosen.len(),
+                    false => whole,
+                };
+                let mut conditions = clause.conditions.iter().filter(due);
+                left.get() > 0
+                    && conditions.all(|condition| {
+                        look(if let Test::NoCall(_) = condition.test { last } else { 0 });
+                        condition.holds(chosen, &calls[..last], &predicates)
+                    })
             };
             choose(&clause.triggers, &calls[..last], &fits, &mut vec![*call]);
         }
