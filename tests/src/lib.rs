@@ -1,5 +1,7 @@
 //! The engine's C interface (include/lorgwin.h), as safe functions on slices.
 
+pub mod both;
+
 #[repr(C)]
 #[derive(Debug, Clone, Copy, PartialEq, Eq)]
 pub struct Verdict {

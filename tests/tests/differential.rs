@@ -13,9 +13,9 @@
 use lorgwin_tests as engine;
 use model::demand::{demand_3, Ended};
 use model::generate::{Case, Rng};
-use model::reached::{self, Reached};
+use model::reached::{sums, taken_back};
 use model::script::push;
-use model::{BUDGET, EXPRESSION, HISTORY, LOG, SCRATCH, TABLE};
+use model::{BUDGET, EXPRESSION, HISTORY, LOG, REWRITTEN, SCRATCH, TABLE};
 use std::collections::{BTreeMap, BTreeSet};
 use std::panic::{catch_unwind, AssertUnwindSafe};
 use std::sync::atomic::{AtomicU64, Ordering};
@@ -28,8 +28,6 @@ const THREADS: usize = 2;
 
 /// The buffers of a rewritten run; a plain run has the first two.
 const SIZES: [usize; 5] = [EXPRESSION, SCRATCH, HISTORY, LOG, TABLE];
-/// The longest file that rewriting writes.
-const OUT: usize = 8 * 1_120;
 const OUTCOMES: [&str; 5] = ["value", "stuck", "spent", "large", "full"];
 const SPENT: u32 = 2;
 const FULL: u32 = 4;
@@ -126,7 +124,7 @@ impl Seen {
     }
 
     /// What the steps of a show came to: its sums and branches, and the calls inside them.
-    fn steps(&mut self, entry: &str, words: Words, history: &Buffer, log: &Buffer, reached: &Reached) {
+    fn steps(&mut self, entry: &str, words: Words, history: &Buffer, log: &Buffer, reached: &sums::Reached) {
         let [number, _, outcome, steps, noted, logged] = words;
         if number != 0 || reached.sums.is_empty() {
             return;
@@ -144,6 +142,34 @@ impl Seen {
         let last = history.last().map_or(0, |time| time + 1);
         let after = outcome == FULL && reached.sums.range(last..steps).next().is_some();
         self.add_if("full histories, sums and branches made after the last entry", after);
+    }
+
+    /// What commands a run of a script as it is had to do.
+    fn commands(&mut self, case: &Case, words: Words) {
+        if words[0] != 0 {
+            return;
+        }
+        let [noting, emitting] = [6, 7].map(|kind| named(&case.script, 8, kind));
+        let [logged, triggers, cancels] = [4, 5, 9].map(|kind| named(&case.guideline, 16, kind));
+        let called_for = &(&logged | &triggers) | &cancels;
+        self.add_if("commands run", !noting.is_empty());
+        self.add_if("commands run, sums or branches in the script", !noting.is_empty() && sums::has_sums(&case.script));
+        self.add_if("commands run that the guideline does not call for", !noting.is_subset(&called_for) || !emitting.is_subset(&logged));
+        self.add_if("commands run, others missing", !noting.is_empty() && !noting.is_superset(&called_for));
+    }
+
+    /// What conditions of kind 9 came to, by the answers of check, derive, rewrite, run_rewritten and rehearse.
+    fn taken_back(&mut self, case: &Case, [checked, derived, written, ran, rehearsed]: [Words; 5]) {
+        let Case { script, guideline, budget, .. } = case;
+        let mut classes = taken_back::file(script, guideline, verdict(checked));
+        classes.extend(taken_back::derived(script, guideline, verdict(derived)));
+        classes.extend(taken_back::written(written[2]));
+        classes.extend(taken_back::run(script, verdict(ran)));
+        let run = if named(script, 8, 6).is_empty() { rehearsed } else { ran };
+        if run[0] == 0 {
+            classes.extend(taken_back::logged_calls(script, guideline, *budget));
+        }
+        classes.iter().for_each(|class| self.add(class, 1));
     }
 
     /// What a run left in history and log under this guideline.
@@ -167,6 +193,7 @@ impl Seen {
         self.add_if("histories not empty", noted > 0);
         self.add_if("logs not empty", logged > 0);
         self.add_if("full histories with a log", outcome == FULL && logged > 0);
+        self.add_if("full histories with a log, conditions of kind 9", outcome == FULL && logged > 0 && taken_back::has_cancels(guideline));
         self.add_if("logs with a time over 65,535", log.iter().any(|entry| entry[0] > 65_535));
         for kind in 2..=4 {
             self.add_if(&format!("logs with a view of kind {kind}"), log.iter().any(|entry| entry[2] == kind));
@@ -182,7 +209,7 @@ impl Seen {
         let calls = history.iter().filter(|entry| entry[1].to_le_bytes() == head[4..8]).count();
         let partly = !log.is_empty() && log.len() < calls;
         self.add_if(&format!("partly logged, history over 100, triggers {}", count(5)), partly);
-        for kind in 6..=8 {
+        for kind in 6..=9 {
             self.add_if(&format!("partly logged, history over 100, condition {kind}"), partly && count(kind) > 0);
         }
         self.add_if("calls never logged, history over 100", calls > 0 && logged == 0);
@@ -191,6 +218,10 @@ impl Seen {
 
 fn answer(verdict: model::Verdict, [outcome, steps, history, log]: [u32; 4]) -> Words {
     [verdict.number, verdict.place, outcome, steps, history, log]
+}
+
+fn verdict([number, place, ..]: Words) -> model::Verdict {
+    model::Verdict { number, place }
 }
 
 fn words(found: engine::RewrittenRun) -> Words {
@@ -239,7 +270,7 @@ impl Files {
         seen.both("check", &[], engine, |[]| answer(model::check(script, guideline), [0; 4])).0
     }
 
-    fn derive(&self, seen: &mut Seen, lent: [Buffer; 1]) {
+    fn derive(&self, seen: &mut Seen, lent: [Buffer; 1]) -> Words {
         let guideline = self.guideline.read();
         let engine = |[table]: [&mut [u8]; 1]| {
             let found = engine::derive(guideline, table);
@@ -251,6 +282,7 @@ impl Files {
         let hold: u32 = table.read().iter().take(TABLE).map(|byte| byte.count_ones()).sum();
         seen.add_if("derive: more than the facts", words[0] == 0 && hold as usize > facts);
         seen.add_if("derive: over 1,000 more than the facts", words[0] == 0 && hold as usize > facts + 1_000);
+        words
     }
 
     fn pass_term(&self, seen: &mut Seen, record: u64) {
@@ -324,7 +356,8 @@ impl Files {
         let holds = demand_3(script, guideline, budget.into(), &ended);
         assert_eq!(holds, Ok(()), "demand 3 of the engine's run with budget {budget}");
         seen.add("demand 3 tested", 1);
-        seen.add_if("demand 3 tested, sums or branches in the script", reached::has_sums(script));
+        seen.add_if("demand 3 tested, sums or branches in the script", sums::has_sums(script));
+        seen.add_if("demand 3 tested, conditions of kind 9", taken_back::has_cancels(guideline));
         seen.add_if("demand 3 tested, log not empty", logged > 0);
         seen.add_if("demand 3 tested, history over 100", noted > 100);
         seen.add_if("demand 3 tested, history full", outcome == FULL);
@@ -379,36 +412,28 @@ fn compare(case: &Case, rng: &mut Rng, seen: &mut Seen) {
     let budget = case.budget as u32;
     let Case { out, expression: e, scratch: s, history: h, log: l, table: t, .. } = *case;
 
-    let [number, place, ..] = files.check(seen);
-    let accepted = number == 0;
-    let reached = reached::steps(&case.script, case.budget);
-    let classes = reached::file(&case.script, model::Verdict { number, place });
+    let checked = files.check(seen);
+    let reached = sums::steps(&case.script, case.budget);
+    let classes = sums::file(&case.script, verdict(checked));
     classes.union(&reached.classes).for_each(|class| seen.add(class, 1));
-    seen.add_if("scripts with sums or branches", reached::has_sums(&case.script));
-    files.derive(seen, lend(rng, [t]));
+    seen.add_if("scripts with sums or branches", sums::has_sums(&case.script));
+    let derived = files.derive(seen, lend(rng, [t]));
     for record in records(rng, case.script.len() / 8) {
         files.pass_term(seen, record);
     }
-    files.rewrite(seen, lend(rng, [out]));
+    let (written, _) = files.rewrite(seen, lend(rng, [out]));
     files.run_plain(seen, budget, lend(rng, [e, s]));
-    let (words, _) = files.run_rewritten(seen, budget, lend(rng, [e, s, h, l, t]));
-    if words[0] == 0 {
-        let [noting, emitting] = [6, 7].map(|kind| named(&case.script, 8, kind));
-        let [logged, triggers] = [4, 5].map(|kind| named(&case.guideline, 16, kind));
-        let called_for = &logged | &triggers;
-        seen.add_if("commands run", !noting.is_empty());
-        seen.add_if("commands run, sums or branches in the script", !noting.is_empty() && reached::has_sums(&case.script));
-        seen.add_if("commands run that the guideline does not call for", !noting.is_subset(&called_for) || !emitting.is_subset(&logged));
-        seen.add_if("commands run, others missing", !noting.is_empty() && !noting.is_superset(&called_for));
-    }
+    let (ran, _) = files.run_rewritten(seen, budget, lend(rng, [e, s, h, l, t]));
+    seen.commands(case, ran);
     let (words, lent) = files.rehearse(seen, budget, lend(rng, [out, e, s, h, l, t]));
     seen.steps("rehearse", words, &lent[3], &lent[4], &reached);
+    seen.taken_back(case, [checked, derived, written, ran, words]);
     files.demand_3(seen, case, budget, words, [&lent[1], &lent[4]]);
 
-    if accepted {
+    if checked[0] == 0 {
         // Once more in two calls, with enough room and another budget.
         let budget = other_budget(rng, case, words);
-        let (words, [out]) = files.rewrite(seen, lend(rng, [OUT]));
+        let (words, [out]) = files.rewrite(seen, lend(rng, [REWRITTEN]));
         let script = Buffer::file(rng, &out.read()[..8 * words[2] as usize]);
         let written = Files { script, ..files.clone() };
         let (words, lent) = written.run_rewritten(seen, budget, lend(rng, SIZES));
@@ -416,7 +441,7 @@ fn compare(case: &Case, rng: &mut Rng, seen: &mut Seen) {
         files.demand_3(seen, case, budget, words, [&lent[0], &lent[3]]);
         files.run_plain(seen, budget, lend(rng, [EXPRESSION, SCRATCH]));
         if rng.one_in(4) {
-            files.rehearse(seen, budget, lend(rng, [OUT, EXPRESSION, SCRATCH, HISTORY, LOG, TABLE]));
+            files.rehearse(seen, budget, lend(rng, [REWRITTEN, EXPRESSION, SCRATCH, HISTORY, LOG, TABLE]));
         }
     }
     assert!(files == before, "a file is altered");
@@ -443,10 +468,11 @@ fn wanted() -> Vec<String> {
         let budgets = ["budget 0", "budget exact", "budget 1,000,000", "budget 1,000,001", "over 10,000 steps", "1,024 records left"];
         wanted.extend(budgets.map(|class| format!("{entry}: {class}")));
     }
-    let partly = ["triggers 1", "triggers 2", "triggers 3", "triggers 4", "condition 6", "condition 7", "condition 8"];
+    let partly = ["triggers 1", "triggers 2", "triggers 3", "triggers 4", "condition 6", "condition 7", "condition 8", "condition 9"];
     wanted.extend(partly.map(|class| format!("partly logged, history over 100, {class}")));
     wanted.extend([2, 3, 4].map(|kind| format!("logs with a view of kind {kind}")));
-    wanted.extend(reached::FILES.iter().chain(&reached::STEPS).map(|class| class.to_string()));
+    wanted.extend(sums::FILES.iter().chain(&sums::STEPS).map(|class| class.to_string()));
+    wanted.extend(taken_back::FILES.iter().chain(&taken_back::LENGTHS).chain(&taken_back::CALLS).map(|class| class.to_string()));
     for entry in ["run_rewritten", "rehearse"] {
         wanted.extend(OUTCOMES.map(|outcome| format!("{entry}: {outcome}, sums and branches made")));
     }
@@ -457,6 +483,7 @@ fn wanted() -> Vec<String> {
         "commands run, others missing",
         "commands run, sums or branches in the script",
         "demand 3 tested",
+        "demand 3 tested, conditions of kind 9",
         "demand 3 tested, history full",
         "demand 3 tested, history over 100",
         "demand 3 tested, log not empty",
@@ -464,6 +491,7 @@ fn wanted() -> Vec<String> {
         "derive: more than the facts",
         "derive: over 1,000 more than the facts",
         "full histories with a log",
+        "full histories with a log, conditions of kind 9",
         "full histories, sums and branches made after the last entry",
         "histories not empty",
         "histories over 100",
@@ -546,7 +574,7 @@ fn every_length() {
         guideline: Vec::new(),
         budget: 3,
         demand: 3,
-        out: OUT,
+        out: REWRITTEN,
         expression: EXPRESSION,
         scratch: SCRATCH,
         history: HISTORY,
@@ -555,7 +583,7 @@ fn every_length() {
     };
     let rng = &mut Rng(0);
     let mut cases = Vec::new();
-    for records in 0..=1_121 {
+    for records in 0..=1_297 {
         let part = rng.below(8);
         cases.extend([0, part].map(|more| Case { script: [script(records), vec![0; more]].concat(), ..usual() }));
         cases.push(Case { script: sums(records), ..usual() });
@@ -590,7 +618,7 @@ fn sums(records: usize) -> Vec<u8> {
     let nest = |records: usize| [[record(9, 0), record(3, 1)].concat().repeat(records / 2), record(3, 7)].concat();
     match records {
         0 | 2 => script(records),
-        _ if records % 2 == 0 => [record(10, 0), record(3, 0), nest(records - 3), record(3, 8)].concat(),
+        _ if records.is_multiple_of(2) => [record(10, 0), record(3, 0), nest(records - 3), record(3, 8)].concat(),
         _ => nest(records),
     }
 }

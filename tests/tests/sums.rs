@@ -1,50 +1,14 @@
 //! Sums and branches, worked out by hand from Item 1 of document 02: what they are refused for, what they become, when they are stuck, and when
 //! calls around them are noted. By the engine over its C interface and by the plain Rust model.
 
-use lorgwin_tests as engine;
-use model::{BUDGET, EXPRESSION, HISTORY, LOG, SCRATCH, TABLE};
+use lorgwin_tests::both::{self, expression, guideline, records, FULL, LARGE, SPENT, STUCK, VALUE};
+use model::{BUDGET, REWRITTEN};
 
-/// Expression, scratch, history, log and table.
-const SIZES: [usize; 5] = [EXPRESSION, SCRATCH, HISTORY, LOG, TABLE];
-const VALUE: u32 = 0;
-const STUCK: u32 = 1;
-const SPENT: u32 = 2;
-const LARGE: u32 = 3;
-const FULL: u32 = 4;
-
-/// Records as `kind:number`; `kind:number*count` is one that is repeated.
-fn records(text: &str) -> Vec<u8> {
-    let mut out = Vec::new();
-    for record in text.split_whitespace() {
-        let (record, count) = record.split_once('*').unwrap_or((record, "1"));
-        let (kind, number) = record.split_once(':').unwrap();
-        for _ in 0..count.parse().unwrap() {
-            model::script::push(&mut out, kind.parse().unwrap(), number.parse().unwrap());
-        }
-    }
-    out
-}
-
-/// Outcome, steps and the expression left of a plain run, the same by engine and model.
-fn plain(script: &str, budget: u32) -> (u32, u32, Vec<u8>) {
-    let bytes = records(script);
-    let [mut found, mut wanted] = [0; 2].map(|_| (vec![1; EXPRESSION], vec![1; SCRATCH]));
-    let by_engine = engine::run_plain(&bytes, budget, &mut found.0, &mut found.1);
-    let (verdict, outcome, steps) = model::run_plain(&bytes, budget.into(), &mut wanted.0, &mut wanted.1);
-    assert_eq!((by_engine.number, by_engine.place), (0, 0), "{script}");
-    assert_eq!(verdict, model::Verdict::default(), "the model on {script}");
-    assert_eq!((by_engine.outcome, by_engine.steps), (outcome, steps), "{script}: engine and model");
-    assert!(found == wanted, "{script}: engine and model leave other bytes");
-    (outcome, steps, found.0)
-}
-
-/// A plain run with these words that leaves this expression and zeros after it.
-fn ends(script: &str, budget: u32, outcome: u32, steps: u32, expression: &str) {
-    let mut wanted = records(expression);
-    wanted.resize(EXPRESSION, 0);
-    let found = plain(script, budget);
-    assert_eq!((found.0, found.1), (outcome, steps), "{script}: outcome and steps with budget {budget}");
-    assert!(found.2 == wanted, "{script}: the expression with budget {budget}");
+/// A plain run with these words that leaves this expression.
+fn ends(script: &str, budget: u32, outcome: u32, steps: u32, left: &str) {
+    let (words, found) = both::run_plain(&records(script), budget);
+    assert_eq!(words, [0, 0, outcome, steps], "{script}: the words with budget {budget}");
+    assert!(found == expression(left), "{script}: the expression with budget {budget}");
 }
 
 /// A term that is stuck where it stands, with any budget.
@@ -57,17 +21,8 @@ fn stuck(script: &str, definitions: &str) {
 /// Number and place of checking a script, and of running it rewritten.
 fn refused(script: &str, number: u32, place: u32) {
     let bytes = records(script);
-    let found = engine::check(&bytes, &[]);
-    assert_eq!((found.number, found.place), (number, place), "{script}");
-    let found = model::check(&bytes, &[]);
-    assert_eq!((found.number, found.place), (number, place), "the model on {script}");
-
-    let mut lent = SIZES.map(|size| vec![1; size]);
-    let found = engine::run_rewritten(&bytes, &[], 0, lent.each_mut().map(Vec::as_mut_slice));
-    assert_eq!((found.number, found.place), (number, place), "{script}, rewritten");
-    let [e, s, h, l, t] = lent.each_mut().map(Vec::as_mut_slice);
-    let found = model::run_rewritten(&bytes, &[], 0, e, s, h, l, t).0;
-    assert_eq!((found.number, found.place), (number, place), "the model on {script}, rewritten");
+    assert_eq!(both::check(&bytes, &[]), [number, place], "{script}");
+    assert_eq!(both::run_rewritten(&bytes, &[], 0).words[..2], [number, place], "{script}, rewritten");
 }
 
 #[test]
@@ -80,9 +35,7 @@ fn checks() {
         for spare in 1..4 {
             let mut bytes = records(&format!("{kind}:0 {parts}"));
             bytes[spare] = 1;
-            let found = engine::check(&bytes, &[]);
-            assert_eq!((found.number, found.place), (2, 0), "spare byte {spare} of kind {kind}");
-            assert_eq!(model::check(&bytes, &[]), model::Verdict { number: 2, place: 0 });
+            assert_eq!(both::check(&bytes, &[]), [2, 0], "spare byte {spare} of kind {kind}");
         }
     }
     refused("11:0 3:1 3:2", 2, 0);
@@ -107,8 +60,7 @@ fn checks() {
     // Views have kinds 2 to 4 still.
     for kind in [9, 10] {
         let fact = [1, 0, kind, 3, 0, 0, 0, 0, 0, 0, 0, 0, 0, 0, 0, 0];
-        assert_eq!(engine::derive(&fact, &mut [0; TABLE]).number, 12);
-        assert_eq!(model::derive(&fact, &mut [0; TABLE]).number, 12);
+        assert_eq!(both::derive(&fact), [12, 0]);
     }
 }
 
@@ -117,8 +69,7 @@ fn term_reader() {
     let script = records("10:0 9:0 3:1 3:2 4:0 1:0 10:0 6:0 1:0 3:1 7:0 1:0 2:5 5:0 9:7 3:1 3:2 3:3 8:0 9:0 3:1");
     let wanted = [18, 4, 3, 4, 6, 6, 18, 10, 9, 10, 13, 12, 13, 18, 17, 16, 17, 18].map(Some);
     for (record, next) in (0..22).zip(wanted.into_iter().chain([None, None, Some(21), None])) {
-        assert_eq!(engine::pass_term(&script, record), next, "at {record}");
-        assert_eq!(model::pass_term(&script, record), next, "the model at {record}");
+        assert_eq!(both::pass_term(&script, record), next, "at {record}");
     }
 }
 
@@ -196,39 +147,14 @@ fn records_left() {
     }
 }
 
-/// A script rewritten under a guideline that logs a function on any call, and run, the same by engine and model: the words after number and
-/// place, the expression and the log.
-fn rehearse(script: &str, logged: u8, budget: u32) -> ([u32; 4], Vec<u8>, Vec<[u32; 4]>) {
-    let bytes = records(script);
-    let guideline = [4, 0, 0, 0, logged, 0, 0, 0, 0, 0, 0, 0, 0, 0, 0, 0];
-    let lent = [8_960, EXPRESSION, SCRATCH, HISTORY, LOG, TABLE].map(|size| vec![1; size]);
-    let [mut found, mut wanted] = [lent.clone(), lent];
-    let [out, e, s, h, l, t] = found.each_mut().map(Vec::as_mut_slice);
-    let run = engine::rehearse(&bytes, &guideline, budget, out, [e, s, h, l, t]);
-    assert_eq!((run.number, run.place), (0, 0), "{script}");
-
-    let [out, e, s, h, l, t] = wanted.each_mut().map(Vec::as_mut_slice);
-    let (verdict, count) = model::rewrite(&bytes, &guideline, out);
-    assert_eq!(verdict, model::Verdict::default(), "the model on {script}");
-    let by_model = model::run_rewritten(&out[..8 * count as usize], &guideline, budget.into(), e, s, h, l, t);
-    assert_eq!((verdict, run.outcome, run.steps, run.history_count, run.log_count), by_model, "{script}: engine and model");
-    assert!(found == wanted, "{script}: engine and model leave other bytes");
-
-    let word = |entry: &[u8], at: usize| u32::from_le_bytes(entry[at..at + 4].try_into().unwrap());
-    let entries = found[4].chunks(16).take(run.log_count as usize);
-    let log = entries.map(|entry| [0, 4, 8, 12].map(|at| word(entry, at))).collect();
-    ([run.outcome, run.steps, run.history_count, run.log_count], found[1].clone(), log)
-}
-
 /// The run of a script under a guideline that logs function 1 on any call, with this log. Every logged call is noted.
-fn logs(script: &str, budget: u32, [outcome, steps]: [u32; 2], expression: &str, log: &[[u32; 4]]) {
-    let mut left = records(expression);
-    left.resize(EXPRESSION, 0);
+fn logs(script: &str, budget: u32, [outcome, steps]: [u32; 2], left: &str, log: &[[u32; 4]]) {
+    let show = records(&format!("8:0 1:0 8:1 1:0 {script}"));
+    let found = both::rehearse(&show, &guideline("4:1"), budget, REWRITTEN);
     let count = log.len() as u32;
-    let found = rehearse(&format!("8:0 1:0 8:1 1:0 {script}"), 1, budget);
-    assert_eq!(found.0, [outcome, steps, count, count], "{script}: the words with budget {budget}");
-    assert!(found.1 == left, "{script}: the expression with budget {budget}");
-    assert_eq!(found.2, log, "{script}: the log with budget {budget}");
+    assert_eq!(found.words, [0, 0, outcome, steps, count, count], "{script}: the words with budget {budget}");
+    assert!(found.expression == expression(left), "{script}: the expression with budget {budget}");
+    assert_eq!(found.log, log, "{script}: the log with budget {budget}");
 }
 
 #[test]
@@ -261,11 +187,10 @@ fn full_histories() {
         ("5:0 4:0 10:0 3:0 5:0 2:1 1:1 3:9 5:0 2:0 1:0", 4_097, "5:0 4:0 10:0 3:0 5:0 2:1 3:0 3:9 5:0 2:0 3:0"),
         ("10:0 5:0 2:0 1:0 5:0 2:1 3:0 3:9", 3_073, "10:0 5:0 2:0 3:0 5:0 2:1 3:0 3:9"),
     ];
-    for (turn, steps, expression) in rows {
-        let mut left = records(expression);
-        left.resize(EXPRESSION, 0);
-        let found = rehearse(&format!("8:0 1:0 8:1 {turn} 5:0 2:1 3:0"), 0, 10_000);
-        assert_eq!(found.0, [FULL, steps, 1_024, 1_024], "{turn}");
-        assert!(found.1 == left, "{turn}: the expression");
+    for (turn, steps, left) in rows {
+        let show = records(&format!("8:0 1:0 8:1 {turn} 5:0 2:1 3:0"));
+        let found = both::rehearse(&show, &guideline("4:0"), 10_000, REWRITTEN);
+        assert_eq!(found.words, [0, 0, FULL, steps, 1_024, 1_024], "{turn}");
+        assert!(found.expression == expression(left), "{turn}: the expression");
     }
 }

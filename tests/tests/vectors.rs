@@ -6,7 +6,7 @@ use std::collections::HashMap;
 
 const TABLE: usize = 8192;
 const BUFFER: usize = 24576;
-const OUT: usize = 8960;
+const OUT: usize = 10368;
 /// Expression, scratch, history, log and table.
 const SIZES: [usize; 5] = [BUFFER, BUFFER, 16384, 16384, TABLE];
 const LENGTHS: [&str; 5] = ["expr_len", "scratch_len", "history_len", "log_len", "table_len"];
@@ -201,7 +201,7 @@ fn pass_term_vectors() {
 
 /// A rewrite vector by one implementation of the entry.
 fn rewrites(v: &Vector, rewrite: impl Fn(&[u8], &[u8], &mut [u8]) -> (u32, u32, u32)) {
-    let before = noise(v.len("out_len", 8960));
+    let before = noise(v.len("out_len", OUT));
     let mut out = before.clone();
     let (number, place, records) = rewrite(&v.file("script"), &v.file("guideline"), &mut out);
     assert_eq!((number, place), v.verdict(), "{}", v.name);
