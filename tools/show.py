@@ -9,11 +9,12 @@ A script's text has its records as kind:number, with blanks or line ends between
 
     fact p0(3:1, 3:2)
     rule p1(x, z) :- p0(x, y), p1(y, z)
-    log 1 after 0, 0 where t1 < t2, p0(x0, x1), x0 = x1, x0 != x2
+    log 1 after 0, 0 where t1 < t2, p0(x0, x1), x0 = x1, x0 != x2, no 2 since t1
 
 p0 to p15 are predicates; x, y, z and w are a rule's variables 0 to 3. `log f after g, h` logs function f with triggers g and h. In its
-conditions x0 and t0 are the argument and the time of the logged call, x1 and t1 those of the first trigger, and so on. `after` and `where`
-may be left out. In both texts `#` starts a comment. A text need not be a good show: that is for the engine to say.
+conditions x0 and t0 are the argument and the time of the logged call, x1 and t1 those of the first trigger, and so on; `no 2 since t1` is true
+if no call of function 2 lies strictly between t1 and t0. `after` and `where` may be left out. In both texts `#` starts a comment. A text need
+not be a good show: that is for the engine to say.
 """
 import pathlib
 import re
@@ -81,6 +82,9 @@ def condition(text):
     if "=" in text:
         i, differs, j = fields(r"x(\d)(!?)=x(\d)", text)
         return record(8, bool(differs), i, j)
+    if "since" in text:
+        function, i = fields(r"no(\d+)sincet(\d)", text)
+        return record(9, 0, i, 0, first=function)
     return record(7, *fields(r"p(\d+)\(x(\d),x(\d)\)", text))
 
 
@@ -111,8 +115,8 @@ def dump_clause(head, *rest):
         atoms = [f"p{r[1]}({VARIABLES[r[2]]}, {VARIABLES[r[3]]})" for r in (head, *rest)]
         return f"rule {atoms[0]} :- {', '.join(atoms[1:])}\n"
     triggers = ", ".join(str(r[4]) for r in rest if r[0] == 5)
-    forms = {6: "t{2} < t{3}", 7: "p{1}(x{2}, x{3})", 8: "x{2} {4} x{3}"}
-    conditions = ", ".join(forms[r[0]].format(*r[:4], "!=" if r[1] else "=") for r in rest if r[0] != 5)
+    forms = {6: "t{2} < t{3}", 7: "p{1}(x{2}, x{3})", 8: "x{2} {sign} x{3}", 9: "no {4} since t{2}"}
+    conditions = ", ".join(forms[r[0]].format(*r, sign="!=" if r[1] else "=") for r in rest if r[0] != 5)
     return f"log {first}" + f" after {triggers}" * bool(triggers) + f" where {conditions}" * bool(conditions) + "\n"
 
 
