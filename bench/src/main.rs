@@ -1,5 +1,5 @@
 //! Times the engine and the plain Rust model on the workloads, side by side: `cargo run --release` prints a table, and below it what a sum or
-//! a branch costs the engine beyond the loop around it.
+//! a branch costs the engine beyond the loop around it, and how the runs with conditions of kind 9 compare with w5d.
 //!
 //! A figure is the best of several calls, in three rounds over all workloads, so that other work on the machine spoils few of them. Buffers
 //! are not cleared between calls: no entry looks at what they held. Each figure is taken in a process of its own, which is stopped after ten
@@ -18,6 +18,8 @@ const ROUNDS: usize = 3;
 const MODEL_STEPS: u32 = 20_000;
 /// A run, and one with as many turns that lacks its sums or branches, or has half of them: the further steps are timed by the difference.
 const BESIDE: [(&str, &str); 5] = [("s1", "s0"), ("s2", "s0"), ("s3", "s3n"), ("s4", "s0"), ("s5", "s5h")];
+/// Runs with conditions of kind 9 and 1,024 noted calls, as many as w5d has.
+const TAKEN_BACK: [&str; 7] = ["k0", "k1", "k2", "k3", "k4", "k5", "k6"];
 
 /// A line of workloads/index.txt: name, script, guideline, budget, what it stresses.
 struct Workload {
@@ -69,7 +71,7 @@ fn best(mut call: impl FnMut() -> u32) -> Figure {
 enum Kind {
     /// Plain runs, w1 to w4 and s0 to s5: the time of a step.
     Plain,
-    /// Rewritten runs of the rewritten script, w5.
+    /// Rewritten runs of the rewritten script, w5 and k0 to k6.
     Rewritten,
     /// Deriving, w6.
     Derive,
@@ -79,9 +81,9 @@ enum Kind {
 
 fn kind(name: &str) -> Kind {
     match name.as_bytes() {
-        [b's', ..] | [_, b'1'..=b'4', ..] => Kind::Plain,
-        [_, b'5', ..] => Kind::Rewritten,
-        [_, b'6', ..] => Kind::Derive,
+        [b's', ..] | [b'w', b'1'..=b'4', ..] => Kind::Plain,
+        [b'k', ..] | [b'w', b'5', ..] => Kind::Rewritten,
+        [b'w', b'6', ..] => Kind::Derive,
         _ => Kind::Rewrite,
     }
 }
@@ -92,7 +94,7 @@ fn buffers() -> [Vec<u8>; 5] {
 
 fn engine(w: &Workload, budget: u32) -> Figure {
     let mut lent = buffers();
-    let mut out = vec![0; 8960];
+    let mut out = vec![0; 10368];
     match kind(&w.name) {
         Kind::Plain => {
             let [e, s, ..] = &mut lent;
@@ -127,7 +129,7 @@ fn engine(w: &Workload, budget: u32) -> Figure {
 
 fn plain(w: &Workload, budget: u32) -> Figure {
     let mut lent = buffers();
-    let mut out = vec![0; 8960];
+    let mut out = vec![0; 10368];
     match kind(&w.name) {
         Kind::Plain => {
             let [e, s, ..] = &mut lent;
@@ -204,6 +206,15 @@ fn print_further(engine: impl Fn(&str) -> Option<Figure>) {
     }
 }
 
+/// How long the runs with conditions of kind 9 take beside the chain of four triggers without, where both were timed.
+fn print_taken_back(engine: impl Fn(&str) -> Option<Figure>) {
+    for name in TAKEN_BACK {
+        if let (Some(a), Some(b)) = (engine(name), engine("w5d")) {
+            println!("{name} takes {:.2} times as long as w5d.", a.call.as_secs_f64() / b.call.as_secs_f64());
+        }
+    }
+}
+
 fn main() {
     let all = workloads();
     let args: Vec<String> = env::args().skip(1).collect();
@@ -251,5 +262,7 @@ fn main() {
         println!("| {} | {} | {steps} | {call} | {step} | {other} | {ratio} |", w.name, w.what);
     }
     println!();
-    print_further(|name| wanted.iter().zip(&figures).find(|(w, _)| w.name == name).and_then(|(_, (one, _))| *one));
+    let engine = |name: &str| wanted.iter().zip(&figures).find(|(w, _)| w.name == name).and_then(|(_, (one, _))| *one);
+    print_further(engine);
+    print_taken_back(engine);
 }
