@@ -14,7 +14,7 @@ use Rattle.calculus.specs.Entailment.{Entry, True, takes?, true?, chosen
 use Rattle.calculus.specs.Entailment.Triggered.{none, one}
 use Rattle.calculus.specs.Rewriting.{logevents, takenBack, watched, triggers, logged, noted}
 use Rattle.calculus.specs.Log.{State, emitCall, addEntry, triple}
-use Rattle.calculus.proofs.Lists.{T-true, T-false, same-T, and-both, both-and, or-left, or-right, eqb-same, view-same, same-view, any-some, some-any, all-each, each-all, each-into, among-into}
+use Rattle.calculus.proofs.Lists.{T-true, T-false, same-T, and-both, both-and, or-right, eqb-same, view-same, same-view, any-some, some-any, all-each, each-all, each-into, among-into}
 use Rattle.calculus.proofs.Least.{holds-least}
 
 -- A condition passes the test where it is true.
@@ -107,9 +107,9 @@ unfolding noted triggers
 trigger-noted G c m g k = or-right (logged G g) _ (among-into (each-into watched m (Memᴰ·append-left (each takenBack (c .conditions)) k)))
 
 -- So is that of a kind 9 condition.
-barred-noted : (G : Guideline) (c : Clause) → List·Memᴰ c (G .clauses) → (i h : ℕ) → List·Memᴰ (noneSince i h) (c .conditions) → T (noted G h)
+since-noted : (G : Guideline) (c : Clause) → List·Memᴰ c (G .clauses) → (i h : ℕ) → List·Memᴰ (noneSince i h) (c .conditions) → T (noted G h)
 unfolding noted triggers
-barred-noted G c m i h k = or-right (logged G h) _ (among-into (each-into watched m (Memᴰ·append-right (c .triggers) (each-into takenBack k (List·Memᴰ·head refl)))))
+since-noted G c m i h k = or-right (logged G h) _ (among-into (each-into watched m (Memᴰ·append-right (c .triggers) (each-into takenBack k (List·Memᴰ·head refl)))))
 
 -- With the same calls chosen, only kind 9 looks at the others: it stays true where none comes in.
 true-map : (G : Guideline) (K K′ : List Entry) (x : Entry) (ys : List Entry) (k : Condition) → ((i h : ℕ) → k ≡ noneSince i h → T (noted G h)) → ((y : Entry) → List·Memᴰ y K′ → y .time < x .time → T (noted G (y .function)) → List·Memᴰ y K) → True G K x ys k → True G K′ x ys k
@@ -128,7 +128,7 @@ entails-map G K K′ x h h′ n =
       logs = n .logs;
       choice = n .choice;
       triggers = triggered-map (λ y m l k. h y m l (trigger-noted G (n .clause) (n .among) (y .function) k)) (n .triggers);
-      conditions = λ k i. true-map G K K′ x (n .choice) k (λ j f e. barred-noted G (n .clause) (n .among) j f (rw e at i)) h′ (n .conditions k i);
+      conditions = λ k i. true-map G K K′ x (n .choice) k (λ j f e. since-noted G (n .clause) (n .among) j f (rw e at i)) h′ (n .conditions k i);
     }
 
 -- Two lists with the same earlier noted calls entail the same.
