@@ -1,4 +1,6 @@
 // The answers of the entries as words for C: structs of words, by value.
+#![tactic(auto)]
+
 ghost use Rattle.std.specs.Prelude.{◌≡◌};
 ghost use Rattle.answers.specs.Answers.{words_of, passed_word, rewriting_words, plain_words, rewritten_words};
 

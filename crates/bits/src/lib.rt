@@ -1,4 +1,6 @@
 // Bits of a 64-bit word, counted from 0 at the low end.
+#![tactic(auto)]
+
 ghost use Rattle.std.specs.Prelude.{◌≡◌, true, ◌↔◌, ◌^◌, ◌<◌, ◌≤◌};
 ghost use Rattle.bits.specs.Bits.{bit_of, Single, NextBit};
 

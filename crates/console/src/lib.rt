@@ -1,4 +1,6 @@
 // The entries for C, as include/lorgwin.h declares them: answers are structs of words, by value.
+#![tactic(auto)]
+
 ghost use Rattle.std.specs.Prelude.{◌≡◌};
 ghost use Rattle.terms.specs.Walk.{pass_term};
 ghost use Rattle.records.specs.Entries.{check_of, derive_of};

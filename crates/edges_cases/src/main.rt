@@ -5,6 +5,8 @@
 // Two cases have a second line. `TenCases` has no run for (h), whose table `edges_guideline` prints: here fire is logged where p1 holds of an
 // earlier override's argument and its own, which are 1 and 3, and then 3 and 1. After the run of (j) comes one with two overrides, which is
 // logged.
+#![tactic(auto)]
+
 ghost use Rattle.std.specs.Prelude.{◌*◌, ◌≤◌, length};
 
 use rewritten::RewrittenRun;

@@ -4,6 +4,8 @@
 // p0(62, 63). The line of a case has the number and the place, two bytes of the table, and how many of its bytes are not zero:
 // - (h) bytes 512 and 528. Bit 2 of the first is p1(1, 3), which holds; bit 0 of the second is p1(3, 1), which does not.
 // - (i) bytes 0 and 8. Bit 0 of the first is p0(1, 1), the only bit that is set: constant 7 stands in no fact and satisfies no p0.
+#![tactic(auto)]
+
 ghost use Rattle.std.specs.Prelude.{◌*◌, ◌≤◌, ◌<◌, length};
 
 use refusal::Verdict;

@@ -3,6 +3,8 @@
 // A line of a plain run has the outcome (value 0, stuck 1, spent 2, large 3, full 4), the steps and the records of the last expression.
 // That of a rewritten run has after these the entries of the history and of the log, and the time of the log's last entry, or 0 where there
 // is none. A refusal's line has only its number and its place. The last two lines are those of rewriting alone, its number and record count.
+#![tactic(auto)]
+
 ghost use Rattle.std.specs.Prelude.{◌*◌, ◌≤◌, length};
 
 use plain::PlainRun;

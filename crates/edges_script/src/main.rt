@@ -1,4 +1,6 @@
 // Checks scripts at the edges of what is accepted. Each line has the records, the definitions, the refusal's number and its place.
+#![tactic(auto)]
+
 ghost use Rattle.std.specs.Prelude.{◌*◌, ◌≤◌, ◌<◌, length};
 
 use script::Purpose;

@@ -3,6 +3,8 @@
 // A line of a plain run has the outcome (value 0, stuck 1, spent 2, large 3, full 4), the steps, and kind and number of the last expression's
 // first record. That of a rewritten run has after outcome and steps the entries of the history and the time of the first one, or 0 where there
 // is none. A refusal's line has only its number and its place.
+#![tactic(auto)]
+
 ghost use Rattle.std.specs.Prelude.{◌*◌, ◌≤◌, length};
 
 use plain::PlainRun;

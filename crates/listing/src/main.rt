@@ -1,5 +1,7 @@
 // The listing of a show (document 01, "Rehearsed shows"): the script in `show.scr` is rewritten under the guideline in `show.gl` and run with
 // budget 1,000. Prints a line for each log entry and one for the outcome, or a refusal's number and place.
+#![tactic(auto)]
+
 mod text;
 
 ghost use Rattle.listing.specs.Input.{Within};

@@ -1,5 +1,7 @@
 // One step of a run, on the bytes: where a script's bodies lie, and the redex replaced by the body that takes its argument, by a sum or by the
 // term that a branch chooses.
+#![tactic(auto)]
+
 ghost use Rattle.std.specs.Prelude.{◌≡◌, ◌+◌, ◌-◌, ◌*◌, ◌≤◌, ◌<◌, length, take, drop};
 ghost use Rattle.calculus.specs.Step.{step};
 ghost use Rattle.script.specs.declared.Purpose.TheVariants.{RewrittenRun};

@@ -1,4 +1,6 @@
 // The entries over script and guideline records: checking, deriving, passing over a term.
+#![tactic(auto)]
+
 ghost use Rattle.std.specs.Prelude.{◌≡◌};
 ghost use Rattle.terms.specs.Walk.{pass_term};
 ghost use Rattle.records.specs.Entries.{check_of, leaves, derive_of};

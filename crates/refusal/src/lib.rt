@@ -1,4 +1,5 @@
 // What a check answers.
+#![tactic(auto)]
 
 // A refusal's number and the first faulty record; 0 and 0 where nothing is refused.
 #[derive(Drop)]

@@ -1,4 +1,6 @@
 // A rehearsal: a script is rewritten under a guideline, and what was written is run. Demand 3 is a part of the contract.
+#![tactic(auto)]
+
 ghost use Rattle.std.specs.Prelude.{◌≡◌};
 ghost use Rattle.rewritten.specs.Answer as runs;
 ghost use Rattle.rehearsal.specs.Rehearsal.{after, refused_with, rehearsal_of, Claimed};

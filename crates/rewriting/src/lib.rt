@@ -1,4 +1,6 @@
 // Rewriting a script under a guideline.
+#![tactic(auto)]
+
 ghost use Rattle.std.specs.Prelude.{◌≡◌, ◌+◌, ◌*◌, ◌<◌, ◌≤◌, length};
 ghost use Rattle.words.specs.Put.{put};
 ghost use Rattle.terms.specs.Record.{count};

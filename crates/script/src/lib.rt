@@ -1,4 +1,6 @@
 // Checking a script: refusals 1 to 7.
+#![tactic(auto)]
+
 ghost use Rattle.std.specs.Prelude.{false, ◌≡◌, ◌+◌, ◌^◌, ◌<◌, ◌≤◌};
 ghost use Rattle.refusal.specs.First.{first_below};
 ghost use Rattle.refusal.specs.Refusal.{verdict, accepted, due_if, or_else, refuse_if};

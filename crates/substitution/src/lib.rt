@@ -1,5 +1,7 @@
 // The copy of a term with a value in the place of a variable: one pass over the records, no recursion, and what stands between two uses of
 // the variable is moved in one run.
+#![tactic(auto)]
+
 ghost use Rattle.std.specs.Prelude.{◌&&◌, ◌≡◌, ◌++◌, ◌+◌, ◌-◌, ◌*◌, ◌≤◌, ◌<◌, eqb, length};
 ghost use Rattle.words.specs.Bytes.{part};
 ghost use Rattle.terms.specs.Read.{term_at};

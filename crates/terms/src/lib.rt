@@ -1,4 +1,6 @@
 // The records of a term: what begins at a record, the range of its number, passing over a term, walking it.
+#![tactic(auto)]
+
 ghost use Rattle.std.specs.Prelude.{◌≡◌, ◌+◌, ◌-◌, ◌^◌, ◌<◌, ◌≤◌};
 ghost use Rattle.terms.specs.Record.{count, kind_at, record_number, arity_of, in_range};
 ghost use Rattle.terms.specs.Walk.{pass_term, walked, walked_value};

@@ -1,4 +1,6 @@
 // Numbers in bytes, the low byte first, and the moving of bytes: what every reader and writer of the engine's buffers goes by.
+#![tactic(auto)]
+
 ghost use Rattle.std.specs.Prelude.{◌≡◌, [], ◌+◌, ◌%◌, ◌<◌, ◌≤◌, length};
 ghost use Rattle.words.specs.Bytes.{bytes, part, number_at};
 ghost use Rattle.words.specs.Put.{put};

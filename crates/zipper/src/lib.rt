@@ -1,5 +1,7 @@
 // An expression in a buffer with a gap at the place of work: what stands before the focus at the front, the focus and what follows it at the
 // end. A step moves only what it changes, and the search for the next redex goes on from the last one.
+#![tactic(auto)]
+
 ghost use Rattle.std.specs.Prelude.{◌≡◌, ◌+◌, ◌<◌, ◌≤◌, length};
 ghost use Rattle.terms.specs.Record.{count, kind_at, record_number};
 ghost use Rattle.terms.specs.Read.{term_at};
