@@ -46,9 +46,9 @@ module _ (G : Guideline) (C : Codebase) where
   context-runs E (more r one) = more (context-runs E r) (context E one refl refl)
 
   -- A trace goes on by them.
-  pub trace-runs : {e : Term} {κ : Conf} (τ : Sequence Conf) → LogTraces G C e τ → Runs∗ G C (last τ) κ → (τ' : Sequence Conf) × LogTraces G C e τ' × (last τ' ≡ κ)
+  pub trace-runs : {e : Term} (τ : Sequence Conf) {κ : Conf} → LogTraces G C e τ → Runs∗ G C (last τ) κ → (τ' : Sequence Conf) × LogTraces G C e τ' × (last τ' ≡ κ)
   trace-runs τ t (none h) = (τ, t, sym h)
-  trace-runs {κ = κ} τ t (more r one) = let (τ', t', h) = trace-runs τ t r in (then τ' κ, LogTraces.onward {κ = κ} t' (rw h one), refl)
+  trace-runs τ {κ = κ} t (more r one) = let (τ', t', h) = trace-runs τ t r in (then τ' κ, LogTraces.onward {κ = κ} t' (rw h one), refl)
 
 -- ---- the commands due
 
