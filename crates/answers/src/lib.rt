@@ -11,14 +11,14 @@ use rewritten::RewrittenRun;
 use terms::Passed;
 
 #[repr(C)]
-#[derive(Drop)]
+#[derive(Clone, Copy)]
 pub struct VerdictWords {
     pub number: u32,
     pub place: u32,
 }
 
 #[repr(C)]
-#[derive(Drop)]
+#[derive(Clone, Copy)]
 pub struct RewritingWords {
     pub number: u32,
     pub place: u32,
@@ -26,7 +26,7 @@ pub struct RewritingWords {
 }
 
 #[repr(C)]
-#[derive(Drop)]
+#[derive(Clone, Copy)]
 pub struct PlainWords {
     pub number: u32,
     pub place: u32,
@@ -35,7 +35,7 @@ pub struct PlainWords {
 }
 
 #[repr(C)]
-#[derive(Drop)]
+#[derive(Clone, Copy)]
 pub struct RewrittenWords {
     pub number: u32,
     pub place: u32,

@@ -9,7 +9,7 @@ ghost use Rattle.listing.specs.Input.{Within};
 use libc::{ENOENT, STDOUT_FILENO};
 
 // What a file gave: so many bytes of a buffer, or that it could not be read.
-#[derive(Drop)]
+#[derive(Clone, Copy)]
 enum Input {
     Bytes(usize),
     Unreadable,

@@ -17,7 +17,7 @@ ghost use Rattle.machine.specs.Outcome.{outcome_number};
 use substitution::Substituted;
 
 // How a run ends.
-#[derive(Drop)]
+#[derive(Clone, Copy)]
 pub enum Outcome {
     Value,
     Stuck,
@@ -27,7 +27,7 @@ pub enum Outcome {
 }
 
 // What firing a redex answers: where the next expression's focus begins, or that the step would leave over 1,024 records.
-#[derive(Drop)]
+#[derive(Clone, Copy)]
 pub enum Fired {
     Made(usize),
     Over,

@@ -9,7 +9,7 @@ ghost use Rattle.terms.specs.Walk.{pass_term};
 use terms::Passed;
 
 // The lent script, and the number of the record that the reader stands on.
-#[derive(Drop)]
+#[derive(Clone, Copy)]
 pub struct Reader<'a> {
     pub script: &'a [u8],
     pub at: usize,

@@ -2,7 +2,7 @@
 #![tactic(auto)]
 
 // A refusal's number and the first faulty record; 0 and 0 where nothing is refused.
-#[derive(Drop)]
+#[derive(Clone, Copy)]
 pub struct Verdict {
     pub number: u32,
     pub place: u32,

@@ -13,7 +13,7 @@ use refusal::Verdict;
 use script::Purpose;
 
 // A refusal's number and place; or 0, 0 and the count of the records that were written.
-#[derive(Drop)]
+#[derive(Clone, Copy)]
 pub struct Rewritten {
     pub number: u32,
     pub place: u32,

@@ -14,7 +14,7 @@ use refusal::Verdict;
 use terms::{Passed, Walked};
 
 // What a script is checked for.
-#[derive(Drop)]
+#[derive(Clone, Copy)]
 pub enum Purpose {
     Checking,
     Rewriting,
@@ -23,7 +23,7 @@ pub enum Purpose {
 }
 
 // A test of one record, for the numbers that are one search through the file.
-#[derive(Drop)]
+#[derive(Clone, Copy)]
 enum Test {
     Malformed,
     Undefined(u32),
@@ -33,7 +33,7 @@ enum Test {
 
 // What numbers 4 to 6 go by in a whole file: how many definitions it has, the first of them that is misnumbered, the first variable
 // that is too large. Where there is none, the place is the record count.
-#[derive(Drop)]
+#[derive(Clone, Copy)]
 struct Faults {
     definitions: u32,
     misnumbered: u32,
@@ -41,7 +41,7 @@ struct Faults {
 }
 
 // What a walk over the file says: where a record cannot stand, or that none is so.
-#[derive(Drop)]
+#[derive(Clone, Copy)]
 enum Layout {
     Broken(u32),
     Whole(Faults),

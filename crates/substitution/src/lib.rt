@@ -9,7 +9,7 @@ ghost use Rattle.substitution.specs.Copied.{copied, Lies, WrittenIs};
 ghost use Rattle.substitution.specs.Stack.{closed};
 
 // The byte after what was written, or that it would go past the limit.
-#[derive(Drop)]
+#[derive(Clone, Copy)]
 pub enum Substituted {
     Done(usize),
     Full,

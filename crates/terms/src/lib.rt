@@ -6,7 +6,7 @@ ghost use Rattle.terms.specs.Record.{count, kind_at, record_number, arity_of, in
 ghost use Rattle.terms.specs.Walk.{pass_term, walked, walked_value};
 
 // How many terms follow a record that begins a term.
-#[derive(Drop)]
+#[derive(Clone, Copy)]
 pub enum Arity {
     NoTerm,
     Leaf,
@@ -16,14 +16,14 @@ pub enum Arity {
 }
 
 // The record after a term, or that no whole term begins there.
-#[derive(Drop)]
+#[derive(Clone, Copy)]
 pub enum Passed {
     Next(usize),
     Nothing,
 }
 
 // The record after a term and its first loose variable (or the record after it again), or where no term can go on.
-#[derive(Drop)]
+#[derive(Clone, Copy)]
 pub enum Walked {
     Whole(u32, u32),
     Stopped(u32),

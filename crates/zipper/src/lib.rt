@@ -10,7 +10,7 @@ ghost use Rattle.zipper.specs.Zipper.{whole_in, end_at, Whole, copied_to, ZipOf,
 use terms::Passed;
 
 // What a search finds: l and r, where the left part ends and the rest begins; at a redex also p, the record it begins with, and the count of frames.
-#[derive(Drop)]
+#[derive(Clone, Copy)]
 pub enum Sought {
     // (l, r)
     Value(usize, usize),
