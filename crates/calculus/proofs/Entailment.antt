@@ -9,7 +9,7 @@ use lib.Dec.{T, eqb, ltb, eqb→eq, ltb→lt, lt→ltb, T_not, not_T}
 use Rattle.calculus.specs.Term.{Term}
 use Rattle.calculus.specs.Guideline.{Guideline, Clause, Condition, Safe}
 use Rattle.calculus.specs.Guideline.Condition.{before, related, equal, differing, none_since}
-use Rattle.calculus.specs.Lists.{any, each, among}
+use Rattle.calculus.specs.Lists.{any, each}
 use Rattle.calculus.specs.Derive.{same_view}
 use Rattle.calculus.specs.Entailment.{Entry, True, takes?, true?, chosen, Triggered, Entails, fits, entails?}
 use Rattle.calculus.specs.Entailment.Triggered.{none, one}

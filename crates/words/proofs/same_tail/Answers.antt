@@ -1,4 +1,3 @@
-use Prim.Native.Nat.{◌-◌}
 use native.Mathlib.Omega.{arith}
 use Rattle.words.proofs.Laws.{same_start, same_more, same_stop, same_end}
 use Rattle.words.proofs.same_tail.Goals as goal
