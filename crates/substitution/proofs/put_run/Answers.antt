@@ -7,12 +7,10 @@ use Rattle.substitution.proofs.put_run.Goals as goal
 
 pub returns-then-limit-pos : goal.returns-then-limit-pos
 returns-then-limit-pos c =
-    
     let l = part_length c.args.s.now (8 * c.args.from) (8 * (c.args.i - c.args.from)) (omega arith) in
     (omega arith, refl)
 
 pub returns : goal.returns
 returns c =
-    
     let l = part_length c.args.s.now (8 * c.args.from) (8 * (c.args.i - c.args.from)) (omega arith) in
     (omega arith, omega arith, c.copy.ensures)

@@ -1,7 +1,5 @@
 use native.Mathlib.Omega.{arith}
-use mathlib.Core.Logic.{⊎_elim}
 use mathlib.Core.Path.{refl, ◌∙◌}
-use Prim.Native.Nat.{◌-◌}
 use lib.ListN.{length-set}
 use Rattle.substitution.proofs.Laws.{fits-at}
 use Rattle.substitution.proofs.Loop.{more-further, use-yes, use-no, numbers, round-less, use-less, started, of-lam, of-more, later, of-use, of-full, of-kept, of_end}

@@ -1,8 +1,5 @@
-use mathlib.Core.Path.{◌≡◌, sym, ◌∙◌}
-use mathlib.Core.Logic.{⊎_elim}
-use Prim.Native.Nat.{◌-◌}
+use mathlib.Core.Path.{sym, ◌∙◌}
 use native.Mathlib.Omega.{arith}
-use Rattle.terms.specs.declared.Arity.TheVariants.{Two, Three}
 use Rattle.terms.proofs.Walk.{walked-within, walked-past, value-past, walked-value, value-two, value_none, value-leaf, value-one, two-stopped, two-stopped-later, two_here, two-later, value-three, three-stopped, three-stopped-second, three-stopped-third, three-first, three-second, three_third}
 use Rattle.terms.proofs.+walk_term_walk_value.Goals as goal
 

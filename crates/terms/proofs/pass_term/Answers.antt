@@ -1,7 +1,6 @@
 use native.Mathlib.Omega.{arith}
-use mathlib.Core.Logic.{⊎_elim}
 use mathlib.Core.Path.{sym, ap, ◌∙◌}
-use Prim.Native.Nat.{ℕ, ◌+◌, ◌-◌, ◌<◌}
+use Prim.Native.Nat.{ℕ, ◌+◌, ◌<◌}
 use native.Mathlib.Omega.{arith}
 use Rattle.terms.specs.Record.{count, kind_at}
 use Rattle.terms.specs.Read.Laws.{arity-zero, arity-leaf, arity-one, arity-two, arity-none}
@@ -35,14 +34,14 @@ pub loop-wanted-preserved : goal.loop-wanted-preserved
 loop-wanted-preserved c =
     let h : c.loop-wanted.i < count c.args.s.now = omega arith in
     elim c.match-kind.branch [
-      in-4 w ↦
-        (ap (λ (n : ℕ). many n c.args.s.now (c.loop-wanted.i + 1)) w.wanted-is ∙ sym (many-lam c.args.s.now c.loop-wanted.i h c.loop-wanted.wanted c.loop-wanted-test.true (arity-one (kind_at c.args.s.now c.loop-wanted.i) w.in-4.is)) ∙ c.loop-wanted.invariant.0, omega arith, omega arith)
-    | in-1-to-3 w ↦
-        (ap (λ (n : ℕ). many n c.args.s.now (c.loop-wanted.i + 1)) w.wanted-is ∙ sym (many-leaf c.args.s.now c.loop-wanted.i h c.loop-wanted.wanted c.loop-wanted-test.true (arity-leaf (kind_at c.args.s.now c.loop-wanted.i) (omega arith) (omega arith))) ∙ c.loop-wanted.invariant.0, omega arith, omega arith)
-    | in-5-to-7 w ↦
-        (ap (λ (n : ℕ). many n c.args.s.now (c.loop-wanted.i + 1)) w.wanted-is ∙ sym (many-pair c.args.s.now c.loop-wanted.i h c.loop-wanted.wanted c.loop-wanted-test.true (arity-two (kind_at c.args.s.now c.loop-wanted.i) (omega arith) (omega arith))) ∙ c.loop-wanted.invariant.0, omega arith, omega arith)
-    | in-9-to-10 w ↦
-        (ap (λ (n : ℕ). many n c.args.s.now (c.loop-wanted.i + 1)) w.wanted-is ∙ sym (many-later c.args.s.now c.loop-wanted.i h c.loop-wanted.wanted c.loop-wanted-test.true (omega arith) (omega arith) _ w.further-wanted.ensures) ∙ c.loop-wanted.invariant.0, omega arith, omega arith)
+      | in-4 w ↦
+          (ap (λ (n : ℕ). many n c.args.s.now (c.loop-wanted.i + 1)) w.wanted-is ∙ sym (many-lam c.args.s.now c.loop-wanted.i h c.loop-wanted.wanted c.loop-wanted-test.true (arity-one (kind_at c.args.s.now c.loop-wanted.i) w.in-4.is)) ∙ c.loop-wanted.invariant.0, omega arith, omega arith)
+      | in-1-to-3 w ↦
+          (ap (λ (n : ℕ). many n c.args.s.now (c.loop-wanted.i + 1)) w.wanted-is ∙ sym (many-leaf c.args.s.now c.loop-wanted.i h c.loop-wanted.wanted c.loop-wanted-test.true (arity-leaf (kind_at c.args.s.now c.loop-wanted.i) (omega arith) (omega arith))) ∙ c.loop-wanted.invariant.0, omega arith, omega arith)
+      | in-5-to-7 w ↦
+          (ap (λ (n : ℕ). many n c.args.s.now (c.loop-wanted.i + 1)) w.wanted-is ∙ sym (many-pair c.args.s.now c.loop-wanted.i h c.loop-wanted.wanted c.loop-wanted-test.true (arity-two (kind_at c.args.s.now c.loop-wanted.i) (omega arith) (omega arith))) ∙ c.loop-wanted.invariant.0, omega arith, omega arith)
+      | in-9-to-10 w ↦
+          (ap (λ (n : ℕ). many n c.args.s.now (c.loop-wanted.i + 1)) w.wanted-is ∙ sym (many-later c.args.s.now c.loop-wanted.i h c.loop-wanted.wanted c.loop-wanted-test.true (omega arith) (omega arith) _ w.further-wanted.ensures) ∙ c.loop-wanted.invariant.0, omega arith, omega arith)
     ]
 
 pub returns : goal.returns
