@@ -1,6 +1,5 @@
 // A term reader: it stands on one record of a lent script and passes over a whole term.
-// The borrow checker covers no function over a struct that holds a slice. So the reader's functions do no work of their own, and each is
-// proved by hand; the work is `terms::pass_term`, which takes the slice and the number and is covered.
+// The reader's functions do no work of their own: the work is `terms::pass_term`, which takes the slice and the number.
 #![tactic(auto)]
 
 ghost use Rattle.std.specs.Prelude.{◌≡◌};

@@ -52,8 +52,8 @@ module _ (s : List ℕ) (p : ℕ → Bool) {m : ℕ} (e : m ≡ first_below p (c
 
 module _ (s : List ℕ) {k : ℕ} (e : k ≡ commands_below s (count s)) {v : Verdict} where
   -- Too many records besides commands and their arguments.
-  pub too_many : 1024 + 2 * k < count s → v ≡ verdict 7 (count s) → v ≡ refuse_if 7 (too_many s) accepted
-  too_many h r =
+  pub too_many_lem : 1024 + 2 * k < count s → v ≡ verdict 7 (count s) → v ≡ refuse_if 7 (too_many s) accepted
+  too_many_lem h r =
       let l : 1024 < count s - 2 * commands_below s (count s) = omega arith in
       r ∙ sym (refuse-due 7 accepted (rw (lt-ltb 1024 (count s - 2 * commands_below s (count s)) l)))
 
