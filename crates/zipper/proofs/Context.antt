@@ -122,8 +122,8 @@ pub record Shared (P : Term → Type 0) : Type 0 where
 -- No commands, …
 pub bare-shared : Shared Bare
 bare-shared = record {
-  two = λ w. elim w [ applies ↦ λ a b h. h | adds ↦ λ a b h. h ];
-  both = λ w. elim w [ applies ↦ λ a b x y. (x, y) | adds ↦ λ a b x y. (x, y) ];
+  two = λ w. elim w as (λ k. (a b : Term) → Bare (join k a b) → Bare a × Bare b) [ applies ↦ λ a b h. h | adds ↦ λ a b h. h ];
+  both = λ w. elim w as (λ k. (a b : Term) → Bare a → Bare b → Bare (join k a b)) [ applies ↦ λ a b x y. (x, y) | adds ↦ λ a b x y. (x, y) ];
   three = λ c a b h. h;
   all = λ c a b x y z. (x, y, z);
 }
@@ -131,8 +131,8 @@ bare-shared = record {
 -- … numbers of four bytes, …
 pub fits-shared : Shared Fits
 fits-shared = record {
-  two = λ w. elim w [ applies ↦ λ a b h. h | adds ↦ λ a b h. h ];
-  both = λ w. elim w [ applies ↦ λ a b x y. (x, y) | adds ↦ λ a b x y. (x, y) ];
+  two = λ w. elim w as (λ k. (a b : Term) → Fits (join k a b) → Fits a × Fits b) [ applies ↦ λ a b h. h | adds ↦ λ a b h. h ];
+  both = λ w. elim w as (λ k. (a b : Term) → Fits a → Fits b → Fits (join k a b)) [ applies ↦ λ a b x y. (x, y) | adds ↦ λ a b x y. (x, y) ];
   three = λ c a b h. h;
   all = λ c a b x y z. (x, y, z);
 }
@@ -140,8 +140,8 @@ fits-shared = record {
 -- … defined names.
 pub defined-shared : (C : Codebase) → Shared (Defined C)
 defined-shared C = record {
-  two = λ w. elim w [ applies ↦ λ a b h. h | adds ↦ λ a b h. h ];
-  both = λ w. elim w [ applies ↦ λ a b x y. (x, y) | adds ↦ λ a b x y. (x, y) ];
+  two = λ w. elim w as (λ k. (a b : Term) → Defined C (join k a b) → Defined C a × Defined C b) [ applies ↦ λ a b h. h | adds ↦ λ a b h. h ];
+  both = λ w. elim w as (λ k. (a b : Term) → Defined C a → Defined C b → Defined C (join k a b)) [ applies ↦ λ a b x y. (x, y) | adds ↦ λ a b x y. (x, y) ];
   three = λ c a b h. h;
   all = λ c a b x y z. (x, y, z);
 }

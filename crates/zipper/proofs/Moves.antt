@@ -4,7 +4,7 @@ use mathlib.Core.List.{List, [], ◌∷◌, ◌++◌, append_assoc}
 use mathlib.Core.Path.{◌≡◌, refl, sym, ap, ◌∙◌}
 use Prim.Native.Nat.{ℕ, ◌+◌, ◌-◌, ◌*◌, ◌<◌, ◌≤◌}
 use native.Mathlib.Omega.{arith}
-use lib.ListN.{length, drop, set, get_or, length-append, length-set, take-append-drop}
+use lib.ListN.{length, drop, set, get_or, length-set, take-append-drop}
 use lib.Seq.{drop_at, get_or-set_same, get_or-set_other}
 use Rattle.words.specs.Bytes.{bytes, part}
 use Rattle.words.specs.Put.{put, put-length, put-head, put-drop}

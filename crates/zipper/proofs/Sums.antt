@@ -10,7 +10,7 @@ use lib.Seq.{drop-drop}
 use Rattle.words.specs.Bytes.{bytes, part, bytes-length, part-take}
 use Rattle.words.specs.Put.{put, put-length, put_front, put-take, put_rest}
 use Rattle.calculus.specs.Term.{Term, Codebase, records, is_value, Bare}
-use Rattle.calculus.specs.Term.Term.{con, sum, branch}
+use Rattle.calculus.specs.Term.Term.{con, branch}
 use Rattle.calculus.specs.Step.{constant, greatest, choice, inside, step}
 use Rattle.calculus.specs.Step.Event.{quiet}
 use Rattle.calculus.specs.Step.Next.{next}
