@@ -1,5 +1,5 @@
--- `zipper::leave` meets its contract. The loop's invariant: the records passed are copied, and the terms still wanted end where the term does.
--- The measure is the records left. Assumes nothing.
+-- `zipper::leave` meets its contract. The loop's invariant: the records passed are copied, the terms still wanted end where the term does, and
+-- what was handed in is bytes. The measure is the records left. Assumes nothing.
 use mathlib.Core.Path.{◌≡◌}
 use Prim.Native.Nat.{◌-◌}
 use lib.ListN.{length}

@@ -51,7 +51,7 @@ loop-entry-smaller-then-kind-lt5 c =
 
 pub loop-entry-preserved-then-kind-lt5 : goal.loop-entry-preserved-then-kind-lt5
 loop-entry-preserved-then-kind-lt5 c =
-    let z = seek-turn c.loop-entry.invariant.0 (omega arith) c.if-depth-eq0.false _ refl _ refl c.if-entry-eq1.false c.if-e-p-eq10.false _ c.leave-end.ensures.0 _ _ c.leave-end.ensures.1 refl in (z, seen z, omega arith, simp length-set (omega arith))
+    let z = seek-turn c.loop-entry.invariant.0 (omega arith) c.if-depth-eq0.false _ refl _ refl c.if-entry-eq1.false (λ x. omega arith) _ c.leave-end.ensures.0 _ _ c.leave-end.ensures.1 refl in (z, seen z, omega arith, simp length-set (omega arith))
 
 pub returns-in_default : goal.returns-in_default
 returns-in_default c =
