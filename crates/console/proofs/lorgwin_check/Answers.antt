@@ -1,0 +1,7 @@
+-- `lorgwin_check` meets its contract.
+use mathlib.Core.Path.{ap, ◌∙◌}
+use Rattle.answers.specs.Answers.{words_of}
+use Rattle.console.proofs.lorgwin_check.Goals as goal
+
+pub returns : goal.returns
+returns c = c.verdict_words.ensures ∙ ap words_of c.check.ensures
