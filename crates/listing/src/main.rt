@@ -4,9 +4,12 @@
 
 mod text;
 
+ghost use Rattle.std.specs.Prelude.{IfOk};
+ghost use Rattle.io.specs.Counts.{IsPrefixLen};
 ghost use Rattle.listing.specs.Input.{Within};
 
-use libc::{ENOENT, STDOUT_FILENO};
+use std::fs::File;
+use std::io::{ErrorKind, Read, Result as IoResult, Write};
 
 // What a file gave: so many bytes of a buffer, or that it could not be read.
 #[derive(Clone, Copy)]
@@ -15,55 +18,61 @@ enum Input {
     Unreadable,
 }
 
-fn is_at_end(fd: i32) -> bool {
-    let mut next = [0u8; 1];
-    libc::read(fd, &mut next) == 0
+// Reads until the buffer is full or the file has ended. It is then full, or the file has been seen to end.
+fn read_full(file: &mut File, buffer: &mut [u8]) -> IoResult<usize>
+    ensures { IfOk result (λ n. IsPrefixLen n buffer.new) }
+{
+    let mut done = 0;
+    while done < buffer.len() {
+        let n = file.read(&mut buffer[done..])?;
+        if n == 0 {
+            break;
+        }
+        done += n;
+    }
+    Ok(done)
 }
 
-// Reads what the buffer takes. It is then full, or the file has been seen to end: else a read failed, and what came is not the file.
-fn read_open(fd: i32, buffer: &mut [u8]) -> Input
-    ensures { Within result buffer.new }
+// Where a read failed, what came is not the file.
+fn read_open(rt: &HostRuntime, name: &str, file: &mut File, buffer: &mut [u8]) -> IoResult<Input>
+    ensures { IfOk result (λ input. Within input buffer.new) }
 {
-    let n = io::read_full(fd, buffer);
-    if n < buffer.len() && !is_at_end(fd) {
-        return Input::Unreadable;
+    match read_full(file, buffer) {
+        Ok(n) => Ok(Input::Bytes(n)),
+        Err(error) => {
+            eprintln!(rt; "{name}: {error}")?;
+            Ok(Input::Unreadable)
+        }
     }
-    Input::Bytes(n)
 }
 
 // "a missing file reads as empty". One that is there and cannot be read does not: a guideline taken for empty would log nothing.
-fn read_file(name: &[u8], buffer: &mut [u8]) -> Input
-    ensures { Within result buffer.new }
+fn read_file(rt: &HostRuntime, name: &str, buffer: &mut [u8]) -> IoResult<Input>
+    ensures { IfOk result (λ input. Within input buffer.new) }
 {
-    let fd = os::open_read(name);
-    if fd < 0 {
-        if os::errno() == ENOENT {
-            return Input::Bytes(0);
+    match File::open(rt, name) {
+        Ok(mut file) => read_open(rt, name, &mut file, buffer),
+        Err(error) => {
+            if error.kind() == ErrorKind::NotFound {
+                return Ok(Input::Bytes(0));
+            }
+            eprintln!(rt; "{name}: {error}")?;
+            Ok(Input::Unreadable)
         }
-        os::fail(name);
-        return Input::Unreadable;
     }
-    let input = read_open(fd, buffer);
-    if let Input::Unreadable = input {
-        os::fail(name);
-    }
-    libc::close(fd);
-    input
 }
 
 // The buffers are one record longer than the longest files, so that a longer file is seen to be too long.
-fn main() {
+fn main(rt: HostRuntime) -> IoResult<()> {
     let mut script = [0u8; 8200];
     let mut guideline = [0u8; 4112];
-    let Input::Bytes(s) = read_file(b"show.scr", &mut script) else {
-        return;
+    let Input::Bytes(s) = read_file(&rt, "show.scr", &mut script)? else {
+        return Ok(());
     };
-    let Input::Bytes(g) = read_file(b"show.gl", &mut guideline) else {
-        return;
+    let Input::Bytes(g) = read_file(&rt, "show.gl", &mut guideline)? else {
+        return Ok(());
     };
     let mut text = io::large_buffer();
     let n = text::list(&script[..s], &guideline[..g], &mut text);
-    if !io::write_all(STDOUT_FILENO, &text[..n]) {
-        os::fail(b"listing");
-    }
+    rt.stdout().write_all(&text[..n])
 }
