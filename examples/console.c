@@ -1,7 +1,7 @@
 /* A console in small: rewrites a script under its guideline, runs what was written, and prints the log as the store files it. A refusal prints its
  * number and place, and what it says on standard error.
  *
- *   cc -O2 -Iinclude examples/console.c target/staticlib/libconsole.a -o console
+ *   cc -O2 -Iinclude examples/console.c crates/console/out/libconsole.a -o console
  *   ./console show.scr show.gl
  *
  * Two calls, as a console makes them: rewriting before the show, the run during it. lorgwin_memory_rehearse does both in one. */

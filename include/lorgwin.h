@@ -1,4 +1,4 @@
-/* Lorgwin: the entries of the script engine for C and C++. Build the archive with `rt staticlib console` and link target/staticlib/libconsole.a.
+/* Lorgwin: the entries of the script engine for C and C++. `rt lib` in crates/console builds the archive, crates/console/out/libconsole.a.
  *
  * Every entry ends, whatever it is given, and reads and writes nothing beyond the buffers that it is lent. No buffer that is written may overlap
  * another argument of the same call, and no pointer is null, not even with length 0. A refusal (number not 0) alters no lent byte, and all words

@@ -1,6 +1,6 @@
 """Tests of tools/show.py: its words for shows that the listing program refuses, and for texts that it does not understand.
 
-The program must be there already: `rt check listing` builds it."""
+The program must be there already: `rt run` in crates/listing builds it."""
 import contextlib
 import io
 import pathlib
@@ -131,7 +131,7 @@ class Show(unittest.TestCase):
 
     def explained(self, listed):
         """What the tool says where the listing program prints this."""
-        program = subprocess.run([ROOT / "target/bin/listing"], cwd=self.folder, capture_output=True, text=True, check=True)
+        program = subprocess.run([ROOT / "crates/listing/out/listing"], cwd=self.folder, capture_output=True, text=True, check=True)
         self.assertEqual(program.stdout, listed + "\n")
         status, out, err = run("explain", self.folder, *listed.split())
         self.assertEqual((status, err), (0, ""))

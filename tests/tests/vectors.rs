@@ -383,7 +383,7 @@ fn printed(script: &[u8], guideline: &[u8]) -> String {
             std::fs::write(folder.join(name), bytes).unwrap();
         }
     }
-    let program = concat!(env!("CARGO_MANIFEST_DIR"), "/../target/bin/listing");
+    let program = concat!(env!("CARGO_MANIFEST_DIR"), "/../crates/listing/out/listing");
     let output = std::process::Command::new(program).current_dir(&folder).output().unwrap();
     std::fs::remove_dir_all(&folder).unwrap();
     assert!(output.status.success() && output.stderr.is_empty());
