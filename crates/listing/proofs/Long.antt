@@ -3,13 +3,13 @@
 use mathlib.Core.Bool.{Bool, true, false}
 use mathlib.Core.List.{List}
 use mathlib.Core.Option.{some}
-use mathlib.Core.Path.{◌≡◌, refl, sym, ap, ◌∙◌}
+use mathlib.Core.Path.{◌≡◌, refl, sym, ◌∙◌}
 use Prim.Native.Nat.{ℕ, ◌/◌, ◌%◌, ◌<◌}
 use native.Mathlib.Omega.{arith}
 use lib.Dec.{eqb}
 use lib.ListN.{length}
 use borrow.Author.Tests.{ne_eqb, eqb-true, lt-ltb}
-use Rattle.refusal.specs.Refusal.{verdict, accepted, and_then, refuse-due, then-refused, then-passed}
+use Rattle.refusal.specs.Refusal.{verdict, accepted, refuse-due, then-refused, then-passed}
 use Rattle.refusal.specs.declared.Verdict.{Verdict}
 use Rattle.script.specs.File.{file_of}
 use Rattle.script.specs.Check.{due1, script_verdict, definition_count}

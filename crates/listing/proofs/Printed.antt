@@ -27,7 +27,7 @@ use Rattle.rewritten.specs.Answer as runs
 use Rattle.rewritten.specs.Answer.{too_short, rewritten_of}
 use Rattle.rewritten.specs.declared.RewrittenRun.{RewrittenRun}
 use Rattle.rehearsal.specs.Claim.{Demand3}
-use Rattle.rehearsal.specs.Rehearsal.{After, rehearsal_due, answered}
+use Rattle.rehearsal.specs.Rehearsal.{rehearsal_due, answered}
 use Rattle.rehearsal.proofs.Demand3.{demand-3-file}
 use Rattle.records.specs.Entries.{check_of}
 use Rattle.listing.specs.Text.{lines_of, refusal_line}

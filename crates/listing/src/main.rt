@@ -9,7 +9,7 @@ ghost use Rattle.io.specs.Counts.{IsPrefixLen};
 ghost use Rattle.listing.specs.Input.{Within};
 
 use std::fs::File;
-use std::io::{ErrorKind, Read, Result as IoResult, Write};
+use std::io::{Error, ErrorKind, Read, Result as IoResult, Write};
 
 // What a file gave: so many bytes of a buffer, or that it could not be read.
 #[derive(Clone, Copy)]
@@ -33,31 +33,37 @@ fn read_full(file: &mut File, buffer: &mut [u8]) -> IoResult<usize>
     Ok(done)
 }
 
+// Tells on standard error why a file cannot be read.
+fn tell(rt: &HostRuntime, name: &str, error: Error) {
+    // Where that fails too, there is nobody to tell.
+    let _told = eprintln!(rt; "{name}: {error}").is_ok();
+}
+
 // Where a read failed, what came is not the file.
-fn read_open(rt: &HostRuntime, name: &str, file: &mut File, buffer: &mut [u8]) -> IoResult<Input>
-    ensures { IfOk result (λ input. Within input buffer.new) }
+fn read_open(rt: &HostRuntime, name: &str, file: &mut File, buffer: &mut [u8]) -> Input
+    ensures { Within result buffer.new }
 {
     match read_full(file, buffer) {
-        Ok(n) => Ok(Input::Bytes(n)),
+        Ok(n) => Input::Bytes(n),
         Err(error) => {
-            eprintln!(rt; "{name}: {error}")?;
-            Ok(Input::Unreadable)
+            tell(rt, name, error);
+            Input::Unreadable
         }
     }
 }
 
 // "a missing file reads as empty". One that is there and cannot be read does not: a guideline taken for empty would log nothing.
-fn read_file(rt: &HostRuntime, name: &str, buffer: &mut [u8]) -> IoResult<Input>
-    ensures { IfOk result (λ input. Within input buffer.new) }
+fn read_file(rt: &HostRuntime, name: &str, buffer: &mut [u8]) -> Input
+    ensures { Within result buffer.new }
 {
     match File::open(rt, name) {
         Ok(mut file) => read_open(rt, name, &mut file, buffer),
         Err(error) => {
             if error.kind() == ErrorKind::NotFound {
-                return Ok(Input::Bytes(0));
+                return Input::Bytes(0);
             }
-            eprintln!(rt; "{name}: {error}")?;
-            Ok(Input::Unreadable)
+            tell(rt, name, error);
+            Input::Unreadable
         }
     }
 }
@@ -66,10 +72,10 @@ fn read_file(rt: &HostRuntime, name: &str, buffer: &mut [u8]) -> IoResult<Input>
 fn main(rt: HostRuntime) -> IoResult<()> {
     let mut script = [0u8; 8200];
     let mut guideline = [0u8; 4112];
-    let Input::Bytes(s) = read_file(&rt, "show.scr", &mut script)? else {
+    let Input::Bytes(s) = read_file(&rt, "show.scr", &mut script) else {
         return Ok(());
     };
-    let Input::Bytes(g) = read_file(&rt, "show.gl", &mut guideline)? else {
+    let Input::Bytes(g) = read_file(&rt, "show.gl", &mut guideline) else {
         return Ok(());
     };
     let mut text = io::large_buffer();
