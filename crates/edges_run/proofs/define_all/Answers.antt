@@ -1,4 +1,3 @@
-use Prim.Native.Nat.{◌-◌}
 use Rattle.edges_run.proofs.define_all.Goals as goal
 
 pub loop-f-init : goal.loop-f-init
