@@ -1,5 +1,5 @@
--- The cycle of calls {walk_term, walk_value}. The measure is twice the records left, and one more for `walk_term`, which calls `walk_value` at
--- the same record. Assumes nothing.
+-- The proof of the cycle of calls {walk_term, walk_value}. The measure is twice the records left, and one more for `walk_term`, which calls
+-- `walk_value` at the same record. Each return has a law of the walk. Assumes nothing.
 use Prim.Native.Nat.{◌+◌, ◌-◌, ◌*◌}
 use Rattle.terms.specs.Record.{count}
 use Rattle.terms.proofs.+walk_term_walk_value.Given as goal

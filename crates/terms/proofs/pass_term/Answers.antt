@@ -1,7 +1,6 @@
 use native.Mathlib.Omega.{arith}
 use mathlib.Core.Path.{sym, ap, ◌∙◌}
 use Prim.Native.Nat.{ℕ, ◌+◌, ◌<◌}
-use native.Mathlib.Omega.{arith}
 use Rattle.terms.specs.Record.{count, kind_at}
 use Rattle.terms.specs.Read.Laws.{arity-zero, arity-leaf, arity-one, arity-two, arity-none}
 use Rattle.terms.specs.Walk.{many}
