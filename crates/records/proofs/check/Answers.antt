@@ -12,7 +12,7 @@ pub returns-then-of_script-ne0 : goal.returns-then-of_script-ne0
 returns-then-of_script-ne0 c = then-refused _ _ c.check_script-of_script.ensures c.if-of_script-ne0.true
 
 pub overflow_cast-definitions : goal.overflow_cast-definitions
-overflow_cast-definitions c = omega (arith, c.definitions.ensures, few-definitions Checking _ c.check_script-of_script.ensures c.if-of_script-ne0.false)
+overflow_cast-definitions c = omega (arith, c.definitions.ensures, few-definitions Checking _ c.check_script-of_script.ensures (omega arith))
 
 pub returns : goal.returns
-returns c = c.check_guideline.ensures ∙ ap (λ (n : ℕ). guideline_verdict n c.args.guideline.now) c.definitions.ensures ∙ then-passed _ _ c.check_script-of_script.ensures c.if-of_script-ne0.false
+returns c = c.check_guideline.ensures ∙ ap (λ (n : ℕ). guideline_verdict n c.args.guideline.now) c.definitions.ensures ∙ then-passed _ _ c.check_script-of_script.ensures (omega arith)
