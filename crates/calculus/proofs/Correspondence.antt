@@ -8,7 +8,7 @@ use Rattle.calculus.specs.Term.{Term, Codebase, Program, codebase, is_value, Bar
 use Rattle.calculus.specs.Term.Term.{var, fun, con, lam, app, call_event, emit, sum, branch}
 use Rattle.calculus.specs.Substitution.{shift, substitute}
 use Rattle.calculus.specs.Step.{Event}
-use Rattle.calculus.specs.Step.Event.{quiet}
+use Rattle.calculus.specs.Step.Event.{quiet, calls}
 use Rattle.calculus.specs.Step.Next.{next}
 use Rattle.calculus.specs.Rules.{Context, plug, Reduces}
 use Rattle.calculus.specs.Rules.Context.{[], applied, argument, augend, addend, condition}
@@ -27,6 +27,7 @@ use Rattle.calculus.proofs.Steps.Chosen.{on_zero, on_other}
 use Rattle.calculus.proofs.Rules.{contract_call, contract, Becomes, becomes-ready, becomes-unique, apart-hole}
 use Rattle.calculus.proofs.Rules.Becomes.{contracted, added, chosen, noted, emitted}
 use Rattle.calculus.proofs.LogRules.{Runs∗, then_runs, context-runs, trace-runs, emit-runs, log-apart}
+use Rattle.calculus.proofs.Peel.{book}
 use Rattle.calculus.proofs.Demand3.{rewritten-codebase, codebase-bare}
 
 -- ---- where traces begin
@@ -37,45 +38,43 @@ begins (Traces.start h k) = h
 begins (Traces.onward t r) = begins t
 
 -- So does one of Λlog.
-log-begins : {G : Guideline} {C : Codebase} {e : Term} {τ : Sequence Conf} → LogTraces G C e τ → (first τ).expr ≡ e
+pub log-begins : {G : Guideline} {C : Codebase} {e : Term} {τ : Sequence Conf} → LogTraces G C e τ → (first τ).expr ≡ e
 log-begins (LogTraces.start h) = ap (λ (κ : Conf). κ.expr) h
 log-begins (LogTraces.onward t r) = log-begins t
 
 -- ---- from the source to the target
 
 module _ (G : Guideline) (safe : Safe G) (C : Codebase) where
-  -- The commands of a rewritten body, with the argument put in, lead to the body.
-  commands-run : (f : ℕ) (v b : Term) (s : State) → (s' : State) × Runs∗ G (rewritten_code G C) (at (substitute 0 v (instrument G f b)) s) (at (substitute 0 v b) s')
+  -- The commands of a rewritten body, with the argument put in, book the call and lead to the body.
+  commands-run : (f : ℕ) (v b : Term) (s : State) → Runs∗ G (rewritten_code G C) (at (substitute 0 v (instrument G f b)) s) (at (substitute 0 v b) (book G (calls f v) s))
   unfolding instrument substitute
   commands-run f v b s = on (logged G f) (R.noted G f)
     where
       r : Term
       r = substitute 0 v b
 
-      on : (x y : Bool) → (s' : State) × Runs∗ G (rewritten_code G C) (at (substitute 0 v (cond x (call_event f (var 0) (emit f (var 0) b)) (cond y (call_event f (var 0) b) b))) s) (at r s')
-      on true y = (emit_call G f v (note_call f v s), Runs∗.more (Runs∗.more (Runs∗.none refl) Precondition) (emit-runs G safe (rewritten_code G C) f v r (note_call f v s)))
-      on false true = (note_call f v s, Runs∗.more (Runs∗.none refl) Precondition)
-      on false false = (s, Runs∗.none refl)
+      on : (x y : Bool) → Runs∗ G (rewritten_code G C) (at (substitute 0 v (cond x (call_event f (var 0) (emit f (var 0) b)) (cond y (call_event f (var 0) b) b))) s) (at r (cond x (emit_call G f v (note_call f v s)) (cond y (note_call f v s) s)))
+      on true y = Runs∗.more (Runs∗.more (Runs∗.none refl) Precondition) (emit-runs G safe (rewritten_code G C) f v r (note_call f v s))
+      on false true = Runs∗.more (Runs∗.none refl) Precondition
+      on false false = Runs∗.none refl
 
-  -- A step of the source is some steps of the target.
-  step-runs : {a a' : Term} {ev : Event} {n n' : ℕ} → Reduces C a n ev a' n' → (s : State) → (s' : State) × Runs∗ G (rewritten_code G C) (at a s) (at a' s')
-  step-runs (β p h) s = (tick s, Runs∗.more (Runs∗.none refl) (Λcall (β p h) refl refl))
+  -- A step of the source is a step of the target, and the commands that book its call.
+  pub step-runs : {a a' : Term} {ev : Event} {n n' : ℕ} → Reduces C a n ev a' n' → (s : State) → Runs∗ G (rewritten_code G C) (at a s) (at a' (book G ev (tick s)))
+  step-runs (β p h) s = Runs∗.more (Runs∗.none refl) (Λcall (β p h) refl refl)
   step-runs (βCall {f = f} {e = b} {v = v} p c h) s =
-      let (s', r) = commands-run f v b (tick s) in
       let one : Runs G (rewritten_code G C) (at (app (fun f) v) s) (at (substitute 0 v (instrument G f b)) (tick s)) = Λcall (βCall p (ap (instrumented G f) c) refl) refl refl in
-      (s', rw h (then_runs G (rewritten_code G C) (Runs∗.more (Runs∗.none refl) one) r))
-  step-runs (add l h) s = (tick s, Runs∗.more (Runs∗.none refl) (Λcall (add l h) refl refl))
-  step-runs (second h) s = (tick s, Runs∗.more (Runs∗.none refl) (Λcall (second h) refl refl))
-  step-runs (third h) s = (tick s, Runs∗.more (Runs∗.none refl) (Λcall (third h) refl refl))
-  step-runs (context E r h h') s = let (s', t) = step-runs r s in (s', rw (h, h') (context-runs G (rewritten_code G C) E t))
+      rw h (then_runs G (rewritten_code G C) (Runs∗.more (Runs∗.none refl) one) (commands-run f v b (tick s)))
+  step-runs (add l h) s = Runs∗.more (Runs∗.none refl) (Λcall (add l h) refl refl)
+  step-runs (second h) s = Runs∗.more (Runs∗.none refl) (Λcall (second h) refl refl)
+  step-runs (third h) s = Runs∗.more (Runs∗.none refl) (Λcall (third h) refl refl)
+  step-runs (context E r h h') s = rw (h, h') (context-runs G (rewritten_code G C) E (step-runs r s))
 
   -- So each trace of the source has one of the target that ends on the same expression.
   target-trace : {e : Term} {τ : Sequence Configuration} → Traces C e τ → (τ' : Sequence Conf) × LogTraces G (rewritten_code G C) e τ' × ((last τ).expr ≡ (last τ').expr)
   target-trace {e} (Traces.start h k) = (alone (at e fresh), LogTraces.start refl, h)
   target-trace (Traces.onward t r) =
       let (τ', t', h) = target-trace t in
-      let (s, rs) = step-runs (rw h at r) (last τ').state in
-      let (τ'', t'', k) = trace-runs G (rewritten_code G C) τ' t' rs in
+      let (τ'', t'', k) = trace-runs G (rewritten_code G C) τ' t' (step-runs (rw h at r) (last τ').state) in
       (τ'', t'', sym (ap (λ (κ : Conf). κ.expr) k))
 
   -- The two correspond.
@@ -102,7 +101,7 @@ shift-bare c (sum a b) p = (shift-bare c a p.0, shift-bare c b p.1)
 shift-bare c (branch e a b) p = (shift-bare c e p.0, shift-bare c a p.1, shift-bare c b p.2)
 
 -- … nor substituting a value without commands, …
-substitute-bare : (d : ℕ) (v e : Term) → Bare v → Bare e → Bare (substitute d v e)
+pub substitute-bare : (d : ℕ) (v e : Term) → Bare v → Bare e → Bare (substitute d v e)
 unfolding substitute
 substitute-bare d v (var i) p q = on (eqb i d) (ltb i d)
   where
@@ -120,7 +119,7 @@ substitute-bare d v (sum a b) p q = (substitute-bare d v a p q.0, substitute-bar
 substitute-bare d v (branch c a b) p q = (substitute-bare d v c p q.0, substitute-bare d v a p q.1, substitute-bare d v b p q.2)
 
 -- … nor another term without commands in a context's hole; what stood in the hole had none.
-plug-bare : (E : Context) (m : Term) → Bare (plug E m) → Bare m × ((r : Term) → Bare r → Bare (plug E r))
+pub plug-bare : (E : Context) (m : Term) → Bare (plug E m) → Bare m × ((r : Term) → Bare r → Bare (plug E r))
 unfolding plug
 plug-bare [] m p = (p, λ r q. q)
 plug-bare (applied E b) m p = let (x, y) = plug-bare E m p.0 in (x, λ r q. (y r q, p.1))

@@ -100,15 +100,22 @@ large-not-full : large ≢ full
 large-not-full e = let z : ◌≡◌ {A = ℕ} 0 1 = cc in omega arith
 
 -- A step adds the entry of its call.
-entries-after : (κ : Conf) (ev : Event) (e : Term) → entries (after κ ev e).made ≡ entries κ.made ++ entries (calls_of κ.time ev)
+pub entries-after : (κ : Conf) (ev : Event) (e : Term) → entries (after κ ev e).made ≡ entries κ.made ++ entries (calls_of κ.time ev)
 entries-after κ ev e = each_append (λ (c : Call). entry c ∷ []) κ.made (calls_of κ.time ev)
+
+-- Its call is at the time before.
+pub below-after : (κ : Conf) (ev : Event) (e : Term) → Below κ.time (entries κ.made) → Below (suc κ.time) (entries (after κ ev e).made)
+unfolding each
+below-after κ quiet e b = rw (append-nil κ.made) (λ x m. let l = b x m in omega arith)
+below-after κ (calls f v) e b =
+    rw (entries-after κ (calls f v) e) (below_more κ.time (entries κ.made) (entry (record { time = κ.time; function = f; argument = v })) b refl)
 
 -- A step keeps what holds, where the history has room for its call …
 ok-quiet : (G : Guideline) (κ : Conf) (e : Term) → Ok G κ → Bare e → Ok G (after κ quiet e)
 ok-quiet G κ e ok p =
     record {
       bare = p;
-      below = rw (append-nil κ.made) (λ x m. let l = ok.below x m in omega arith);
+      below = below-after κ quiet e ok.below;
       rising = rw (append-nil κ.made) ok.rising;
       room = rw (append-nil κ.made) ok.room;
     }
@@ -118,7 +125,7 @@ unfolding each
 ok-call G κ f v e ok p h =
     record {
       bare = p;
-      below = rw (entries-after κ (calls f v) e) (below_more κ.time K x ok.below refl);
+      below = below-after κ (calls f v) e ok.below;
       rising = rw (entries-after κ (calls f v) e) (rising-more K x ok.rising ok.below);
       room = rw (entries-after κ (calls f v) e) (on (noted G f) (leb L.history_limit (notes G κ)) refl refl h);
     }

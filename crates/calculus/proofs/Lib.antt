@@ -17,4 +17,6 @@ pub mod Placed
 pub mod Image
 pub mod Demand3
 pub mod Correspondence
+pub mod Printed
+pub mod Soundness
 pub mod Cases

@@ -142,7 +142,7 @@ calls-first S k n l = let q : k + (n - k) ≡ n = omega arith in rw q at (calls-
 -- ---- the paper's traces
 
 -- What it means that toFOL(κ) says a call: the call's redex is κ's, at κ's time.
-abbrev Means : Configuration → Fact → Type 0
+abbrev pub Means : Configuration → Fact → Type 0
 Means κ (Fact.Value n v) = Unit {0}
 Means κ (Fact.Call n f v) = (E : Context) × (n ≡ κ.time) × T (is_value v) × (κ.expr ≡ plug E (app (fun f) v))
 Means κ (Fact.App n a v) = Unit {0}
@@ -150,7 +150,7 @@ Means κ (Fact.Context n E) = Unit {0}
 Means κ (Fact.Codebase n f b) = Unit {0}
 
 -- It means that.
-says-means : {C : Codebase} {κ : Configuration} {φ : Fact} → Says C κ φ → Means κ φ
+pub says-means : {C : Codebase} {κ : Configuration} {φ : Fact} → Says C κ φ → Means κ φ
 says-means (Says.value p) = tt
 says-means (Says.call E p h) = (E, refl, p, h)
 says-means (Says.application E p h) = tt
@@ -213,7 +213,7 @@ module _ {C : Codebase} {e : Term} {κ : Conf} {ev : Event} {e' : Term} (t : Tra
   longer = then t.trace record { expr = e'; time = suc κ.time }
 
   -- toFOL says the calls that are listed after the step …
-  made-said : (c : Call) → Memᴰ c κ.made ⊎ Memᴰ c (calls_of κ.time ev) → (c.time < suc κ.time) × ToFol C longer (said_of c)
+  pub made-said : (c : Call) → Memᴰ c κ.made ⊎ Memᴰ c (calls_of κ.time ev) → (c.time < suc κ.time) × ToFol C longer (said_of c)
   made-said c (inl i) = let (l, s) = (t.made c).0 i in let u = t.time in (omega arith, inl s)
   made-said c (inr i) =
       let (u, w) = added-call κ.time ev c i in
@@ -221,7 +221,7 @@ module _ {C : Codebase} {e : Term} {κ : Conf} {ev : Event} {e' : Term} (t : Tra
       (omega arith, inl (last_says t.trace (rw (u ∙ sym t.time) (Says.call E p (t.expression ∙ h)))))
 
   -- … and no others.
-  said-made : (c : Call) → c.time < suc κ.time → ToFol C longer (said_of c) → Memᴰ c (κ.made ++ calls_of κ.time ev)
+  pub said-made : (c : Call) → c.time < suc κ.time → ToFol C longer (said_of c) → Memᴰ c (κ.made ++ calls_of κ.time ev)
   said-made c l (inl s) = on (earlier-or-last c t.traces s)
     where
       on : (c.time < (last t.trace).time) ⊎ Says C (last t.trace) (said_of c) → Memᴰ c (κ.made ++ calls_of κ.time ev)
@@ -233,7 +233,7 @@ module _ {C : Codebase} {e : Term} {κ : Conf} {ev : Event} {e' : Term} (t : Tra
   said-made c l (inr x) = let q = (says-means x).1 in absurd (omega arith)
 
   -- So a step goes on from a traced configuration to a traced one.
-  traced-more : Traced C e record { expr = e'; time = suc κ.time; made = κ.made ++ calls_of κ.time ev }
+  unfoldable pub traced-more : Traced C e record { expr = e'; time = suc κ.time; made = κ.made ++ calls_of κ.time ev }
   traced-more =
       record {
         trace = longer;
@@ -243,20 +243,21 @@ module _ {C : Codebase} {e : Term} {κ : Conf} {ev : Event} {e' : Term} (t : Tra
         made = λ c. (λ m. made-said c (Memᴰ.append_cases κ.made m), λ (l, s). said-made c l s);
       }
 
+-- Before the first step there is the trace of one configuration.
+unfoldable pub traced-start : (C : Codebase) (e : Term) → Traced C e (initial e)
+traced-start C e =
+    record {
+      trace = alone record { expr = e; time = 0 };
+      traces = start refl refl;
+      expression = refl;
+      time = refl;
+      made = λ c. (λ m. absurd (Memᴰ.not-nil m), λ (l, s). absurd (omega arith));
+    }
+
 -- Each configuration of the plain run is traced, and closed.
 traced : (C : Codebase) → ClosedCode C → (e : Term) → ClosedTerm C e → (n : ℕ) → Traced C e (plain C n e).last × ClosedTerm C (plain C n e).last.expr
 unfolding plain
-traced C code e h zero =
-    rw (run-zero (plain_tick C) (initial e)) (
-      record {
-        trace = alone record { expr = e; time = 0 };
-        traces = start refl refl;
-        expression = refl;
-        time = refl;
-        made = λ c. (λ m. absurd (Memᴰ.not-nil m), λ (l, s). absurd (omega arith));
-      },
-      h,
-    )
+traced C code e h zero = rw (run-zero (plain_tick C) (initial e)) (traced-start C e, h)
 traced C code e h (suc n) = on (advance C e n) (traced C code e h n)
   where
     on : Advance C e n → Traced C e (plain C n e).last × ClosedTerm C (plain C n e).last.expr → Traced C e (plain C (suc n) e).last × ClosedTerm C (plain C (suc n) e).last.expr

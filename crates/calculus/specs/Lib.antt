@@ -14,5 +14,6 @@ pub mod Trace
 pub mod Log
 pub mod LogRules
 pub mod Correspondence
+pub mod Soundness
 pub mod Claim
 pub mod Cases

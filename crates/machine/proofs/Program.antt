@@ -111,6 +111,21 @@ pub record Body (f : ℕ) (b : Term) : Type 0 where
   pub bare : Bare (strip b)
   pub few : records (strip b) ≤ 1024
 
+module _ {u : Purpose} {s : List ℕ} (h : Formed u s) where
+  -- Its code is closed, …
+  pub program-code : ClosedCode (codebase (program_in s))
+  program-code =
+      let S : Program = program_in s in
+      let w = h.formed in
+      record {
+        body_scoped = λ f b e. w.body_scoped b (body-among S.definitions f b e);
+        body_defined = λ f b e. w.body_defined b (body-among S.definitions f b e);
+      }
+
+  -- … and so is its main term.
+  pub program-main : ClosedTerm (codebase (program_in s)) (program_in s).main
+  program-main = record { scoped = h.formed.main_scoped; defined = h.formed.main_defined }
+
 module _ {s : List ℕ} (h : Formed RewrittenRun s) where
   -- Each of its functions has such a body.
   pub formed-body : (f : ℕ) (b : Term) → codebase (program_in s) f ≡ some b → Body f b
@@ -137,17 +152,10 @@ module _ {s : List ℕ} (h : Formed RewrittenRun s) where
         small = omega (arith, bare-size S.main w.commands.1, w.commands.2);
       }
 
-  -- Its code is closed, …
+  -- Its code is closed without commands, …
   pub formed-code : ClosedCode (code_in s)
   unfolding code_in
-  formed-code =
-      let S : Program = program_in s in
-      let w = h.formed in
-      strip-closed (codebase S)
-      record {
-        body_scoped = λ f b e. w.body_scoped b (body-among S.definitions f b e);
-        body_defined = λ f b e. w.body_defined b (body-among S.definitions f b e);
-      }
+  formed-code = strip-closed (codebase (program_in s)) (program-code h)
 
   -- … and so is its main term.
   pub formed-closed : ClosedTerm (code_in s) (program_in s).main

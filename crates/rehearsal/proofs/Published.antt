@@ -38,6 +38,5 @@ plain-published s b v n = plain-traces (codebase (program_in s)) (accepted-code 
 pub rewritten-published : (s g : List ℕ) → AllBytes s → AllBytes g → script_verdict RewrittenRun s ≡ accepted → guideline_verdict (definition_count (file_of s)) g ≡ accepted → (n : ℕ)
     → (τ : Sequence L.Conf) × LogTraces (guideline_of g) (codebase (program_in s)) (program_in s).main τ × (last τ ≡ (L.rewritten_run (guideline_of g) (program_in s) n).last)
 rewritten-published s g b c v w n =
-    let (placed, bare, _) = (accepted-formed RewrittenRun s b v).formed.commands in
-    run-runs (guideline_of g) (accepted-safe g c (verdict-file (definition_count (file_of s)) g w)) (codebase (program_in s)) (accepted-code RewrittenRun s b v) placed
-    (program_in s).main (accepted-main RewrittenRun s b v) bare n
+    run-runs (guideline_of g) (accepted-safe g c (verdict-file (definition_count (file_of s)) g w)) (codebase (program_in s)) (accepted-code RewrittenRun s b v)
+    (program_in s).main (accepted-main RewrittenRun s b v) n

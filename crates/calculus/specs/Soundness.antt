@@ -3,12 +3,18 @@ use mathlib.Core.List.{List, Memᴰ}
 use Rattle.std.specs.Prelude.{◌↔◌, ◌≡◌, ◌<◌}
 use Rattle.calculus.specs.Term.{Term, Codebase, Program, codebase, view}
 use Rattle.calculus.specs.Guideline.{Guideline}
-use Rattle.calculus.specs.Entailment.{Entry}
+use Rattle.calculus.specs.Entailment.{Entry, Entails}
 use Rattle.calculus.specs.Rewriting.{rewrite}
 use Rattle.calculus.specs.Trace.{Sequence, Configuration, Traces, Fact, ToFol, last}
 use Rattle.calculus.specs.Log.{Conf}
-use Rattle.calculus.specs.LogRules.{Derives, LogTraces}
+use Rattle.calculus.specs.LogRules.{LogTraces}
 use Rattle.calculus.specs.Correspondence.{Corresponds}
+
+-- X ∪ X_Guidelines ⊢ LoggedCall(t, f, v). The body of Definition 9 begins with Call(t_0, f, x_0), so the call itself has to be in X; the rest of
+-- that body is `Entails`. The rules Log and NoLog ask for the rest alone: a rewritten body's emit comes right after its callEvent, when the
+-- call is in X.
+abbrev pub Derives : Guideline → List Entry → Entry → Type 0
+Derives G X x = Memᴰ x X × Entails G X x
 
 -- toFOL(τ) says Call(t, f, v), and v has that view.
 pub record Said (C : Codebase) (τ : Sequence Configuration) (x : Entry) : Type 0 where
