@@ -1,6 +1,5 @@
 -- `machine::apply` meets its contract: the room is what the limit leaves, and the result lies where the argument ended. Assumes nothing.
 use native.Mathlib.Omega.{arith}
-use native.Mathlib.Omega.{arith}
 use Rattle.machine.proofs.Contract.{numbers, ready-source, fire-room, fire-made, fire-over}
 use Rattle.machine.proofs.apply.Goals as goal
 

@@ -1,6 +1,5 @@
 use native.Mathlib.Omega.{arith}
 use mathlib.Core.Path.{refl}
-use Prim.Native.Nat.{◌-◌}
 use lib.ListN.{length-set}
 use Rattle.machine.proofs.Bodies.{passing-none, passing-in, command-in, second-in, turn, passing-on, passing-end}
 use Rattle.machine.proofs.find_bodies.Goals as goal

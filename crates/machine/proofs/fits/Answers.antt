@@ -1,6 +1,5 @@
 -- `machine::fits` meets its contract: the room is what the limit leaves. Assumes nothing.
 use native.Mathlib.Omega.{arith}
-use native.Mathlib.Omega.{arith}
 use Rattle.machine.proofs.Contract.{ready-inside, numbers, ready-source, fits-room, fits_not, fits-other}
 use Rattle.machine.proofs.fits.Goals as goal
 
