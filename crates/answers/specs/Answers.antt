@@ -1,13 +1,11 @@
 -- The answers of the entries as words for C. Assumes nothing.
-use Rattle.std.specs.Prelude.{ℕ}
-use Rattle.refusal.specs.declared.Verdict.{Verdict}
-use Rattle.terms.specs.declared.Passed.{Passed}
-use Rattle.terms.specs.declared.Passed.TheVariants.{Next, Nothing}
-use Rattle.rewriting.specs.declared.Rewritten.{Rewritten}
+use Rattle.std.specs.Prelude.{ℕ, Option, Some, None}
+use Rattle.refusal.specs.Refusal.{Verdict}
+use Rattle.rewriting.specs.Answer.{Rewritten}
 use Rattle.plain.specs.Answer as plains
-use Rattle.plain.specs.declared.PlainRun.{PlainRun}
+use Rattle.plain.specs.Answer.{PlainRun}
 use Rattle.rewritten.specs.Answer as runs
-use Rattle.rewritten.specs.declared.RewrittenRun.{RewrittenRun}
+use Rattle.rewritten.specs.Answer.{RewrittenRun}
 use Rattle.answers.specs.declared.VerdictWords.{VerdictWords}
 use Rattle.answers.specs.declared.RewritingWords.{RewritingWords}
 use Rattle.answers.specs.declared.PlainWords.{PlainWords}
@@ -18,9 +16,9 @@ abbrev pub words_of : Verdict → VerdictWords
 words_of v = record { number = v.number; place = v.place }
 
 -- The record after the term; 2 ^ 64 - 1 for none (`no-term-exactly`: for none only).
-abbrev pub passed_word : Passed → ℕ
-passed_word (Next i) = i
-passed_word Nothing = 18446744073709551615
+abbrev pub passed_word : Option ℕ → ℕ
+passed_word (Some i) = i
+passed_word None = 18446744073709551615
 
 -- Number, place and record count.
 abbrev pub rewriting_words : Rewritten → RewritingWords

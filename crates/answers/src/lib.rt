@@ -2,13 +2,13 @@
 #![tactic(auto)]
 
 ghost use Rattle.std.specs.Prelude.{◌≡◌};
+ghost use Rattle.refusal.specs.Refusal.{verdict_of};
+ghost use Rattle.rewriting.specs.Answer as rewrites;
+ghost use Rattle.plain.specs.Answer as plains;
+ghost use Rattle.rewritten.specs.Answer as runs;
 ghost use Rattle.answers.specs.Answers.{words_of, passed_word, rewriting_words, plain_words, rewritten_words};
 
-use plain::PlainRun;
-use refusal::Verdict;
-use rewriting::Rewritten;
-use rewritten::RewrittenRun;
-use terms::Passed;
+use refusal::Refusal;
 
 #[repr(C)]
 #[derive(Clone, Copy)]
@@ -45,73 +45,94 @@ pub struct RewrittenWords {
     pub log_count: u32,
 }
 
-pub fn verdict_words(v: Verdict) -> VerdictWords
-    ensures { result ≡ words_of v }
-{
-    VerdictWords {
-        number: v.number,
-        place: v.place,
+impl From<Result<(), Refusal>> for VerdictWords {
+    ghost from_gives = { λ answer words. words ≡ words_of (verdict_of answer) };
+
+    fn from(answer: Result<(), Refusal>) -> VerdictWords {
+        match answer {
+            Ok(()) => VerdictWords {
+                number: 0,
+                place: 0,
+            },
+            Err(refusal) => VerdictWords {
+                number: u32::from(refusal.reason),
+                place: refusal.place,
+            },
+        }
+    }
+}
+
+impl From<Result<u32, Refusal>> for RewritingWords {
+    ghost from_gives = { λ answer words. words ≡ rewriting_words (rewrites.answer_of answer) };
+
+    fn from(answer: Result<u32, Refusal>) -> RewritingWords {
+        match answer {
+            Ok(records) => RewritingWords {
+                number: 0,
+                place: 0,
+                records,
+            },
+            Err(refused) => RewritingWords {
+                number: u32::from(refused.reason),
+                place: refused.place,
+                records: 0,
+            },
+        }
+    }
+}
+
+impl From<Result<plain::Ran, Refusal>> for PlainWords {
+    ghost from_gives = { λ answer words. words ≡ plain_words (plains.answer_of answer) };
+
+    fn from(answer: Result<plain::Ran, Refusal>) -> PlainWords {
+        match answer {
+            Ok(ran) => PlainWords {
+                number: 0,
+                place: 0,
+                outcome: u32::from(ran.outcome),
+                steps: ran.steps,
+            },
+            Err(why) => PlainWords {
+                number: u32::from(why.reason),
+                place: why.place,
+                outcome: 0,
+                steps: 0,
+            },
+        }
+    }
+}
+
+impl From<Result<rewritten::Ran, Refusal>> for RewrittenWords {
+    ghost from_gives = { λ answer words. words ≡ rewritten_words (runs.answer_of answer) };
+
+    fn from(answer: Result<rewritten::Ran, Refusal>) -> RewrittenWords {
+        match answer {
+            Ok(ran) => RewrittenWords {
+                number: 0,
+                place: 0,
+                outcome: u32::from(ran.outcome),
+                steps: ran.counts.steps,
+                history_count: ran.counts.history,
+                log_count: ran.counts.log,
+            },
+            Err(fault) => RewrittenWords {
+                number: u32::from(fault.reason),
+                place: fault.place,
+                outcome: 0,
+                steps: 0,
+                history_count: 0,
+                log_count: 0,
+            },
+        }
     }
 }
 
 // The record after the term; 2 ^ 64 - 1 for none.
-pub fn passed_word(p: Passed) -> u64
+pub fn passed_word(p: Option<usize>) -> u64
     ensures { result ≡ passed_word p }
 {
     match p {
-        Passed::Next(i) => i as u64,
-        Passed::Nothing => 0xffff_ffff_ffff_ffff,
-    }
-}
-
-pub fn rewriting_words(r: Rewritten) -> RewritingWords
-    ensures { result ≡ rewriting_words r }
-{
-    RewritingWords {
-        number: r.number,
-        place: r.place,
-        records: r.records,
-    }
-}
-
-pub fn plain_words(r: PlainRun) -> PlainWords
-    ensures { result ≡ plain_words r }
-{
-    match r {
-        PlainRun::Refused(why) => PlainWords {
-            number: why.number,
-            place: why.place,
-            outcome: 0,
-            steps: 0,
-        },
-        PlainRun::Ran(outcome, steps) => PlainWords {
-            number: 0,
-            place: 0,
-            outcome: machine::outcome_number(outcome),
-            steps: steps,
-        },
-    }
-}
-
-pub fn rewritten_words(r: RewrittenRun) -> RewrittenWords
-    ensures { result ≡ rewritten_words r }
-{
-    match r {
-        RewrittenRun::Refused(refusal) => RewrittenWords {
-            number: refusal.number,
-            place: refusal.place,
-            outcome: 0,
-            steps: 0,
-            history_count: 0,
-            log_count: 0,
-        },
-        RewrittenRun::Ran(outcome, counts) => RewrittenWords {
-            number: 0,
-            place: 0,
-            outcome: machine::outcome_number(outcome),
-            steps: counts.steps,
-            history_count: counts.history,
-            log_count: counts.log,
-        },
+        Some(i) => i as u64,
+        None => 0xffff_ffff_ffff_ffff,
     }
 }

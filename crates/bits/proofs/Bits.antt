@@ -141,7 +141,6 @@ one_bit (suc a) (suc b) =
 pub one_on : (a : ℕ) → On (2 ^ a) a
 one_on a = one_bit a a ∙ eq-eqb a a refl
 
--- Bit a of 2 ^ a is set.
 -- A set bit of 2 ^ a is bit a.
 pub one_only : (a b : ℕ) → On (2 ^ a) b → b ≡ a
 one_only a b p = eqb-true b a (sym (one_bit a b) ∙ p)

@@ -1,16 +1,17 @@
--- Trailing zeros, which `single` and `next` count. Assumes nothing.
-use mathlib.Core.Path.{◌≡◌, refl, sym, ap, subst, ◌∙◌}
-use mathlib.Core.Bool.{false, true, false≢true}
+-- Trailing zeros, by which the walk over the set bits finds the next one. Assumes nothing.
+use mathlib.Core.Path.{◌≡◌, refl, sym, ap, ◌∙◌}
+use mathlib.Core.Bool.{false, false≢true}
 use mathlib.Core.Logic.{◌↔◌}
-use Prim.Native.Nat.{ℕ, zero, suc, ◌+◌, ◌-◌, ◌*◌, ◌/◌, ◌%◌, ◌^◌, ◌<◌, ◌≤◌}
+use Prim.Native.Nat.{ℕ, zero, suc, ◌-◌, ◌/◌, ◌%◌, ◌^◌, ◌<◌, ◌≤◌}
 use native.Mathlib.Nat.{not-suc-le-zero, le_of_suc-le-suc}
+use native.Mathlib.Decide.{dec_lt}
 use native.Mathlib.Omega.{arith}
+use lib.Bits.{bit_and}
 use lib.Count.{count_trailing_zeros, under}
-use lib.Dec.{eqb, lit<}
-use lib.Pow.{shl_exact}
+use lib.Dec.{eqb}
 use borrow.Author.Tests.{eqb-true, eq-eqb}
-use Rattle.bits.specs.Bits.{bit_of, On, Single, NextBit}
-use Rattle.bits.proofs.Bits.{low, half, shift-bit, one_on, one_only, word_below}
+use Rattle.bits.specs.Bits.{bit_of, On, FirstBit}
+use Rattle.bits.proofs.Bits.{low, half, and_both, and_left, and_right, zero-none, some-on, subset-le, word_below}
 
 -- The bits below the count of trailing zeros are clear.
 trailing-clear : (k n b : ℕ) → b < count_trailing_zeros k n → bit_of n b ≡ false
@@ -35,31 +36,49 @@ trailing-on (suc k) n l = go (n % 2) refl l (trailing-on k (n / 2))
     go zero e u ih = half n (count_trailing_zeros k (n / 2)) ∙ ih (le_of_suc-le-suc u)
     go (suc r) e u ih = let z : n % 2 ≡ 1 = omega arith in low n ∙ eq-eqb (n % 2) 1 z
 
--- The test of `single`: a word with a set bit has one alone just where it is the power of two at its trailing zeros.
-pub single-is : (w a : ℕ) → a ≡ count_trailing_zeros 64 w → a < 64 → (eqb w ((1 * 2 ^ a) % 18446744073709551616) ≡ true) ↔ Single w
-single-is w a e l =
-    let f : 1 * 2 ^ a ≡ 2 ^ a = omega arith in
-    let s = shl_exact 1 a 64 (lit< tt) (omega arith) ∙ f in
-    let o : On w a = rw e (trailing-on 64 w (rw e at l)) in (
-      (λ q. (a, eqb-true w _ q ∙ s)),
-      λ q. eq-eqb w _ (q.1 ∙ ap (λ (x : ℕ). 2 ^ x) (sym (one_only q.0 a (subst (λ (x : ℕ). On x a) q.1 o))) ∙ sym s),
+-- Of the set bits of a word all but the first, a, are set in the number before it.
+before-bit : (w a b : ℕ) → On w a → ((c : ℕ) → On w c → a ≤ c) → On w b → On (w - 1) b ↔ (b ≡ a → ⊥)
+before-bit w zero zero o f p =
+    let odd : w % 2 ≡ 1 = eqb-true (w % 2) 1 (sym (low w) ∙ p) in
+    let e : (w - 1) % 2 ≡ 0 = omega arith in
+    ((λ q. absurd (false≢true (ap (λ (x : ℕ). eqb x 1) (sym e) ∙ sym (low (w - 1)) ∙ q))), λ n. absurd (n refl))
+before-bit w zero (suc b) o f p =
+    let odd : w % 2 ≡ 1 = eqb-true (w % 2) 1 (sym (low w) ∙ o) in
+    let e : (w - 1) / 2 ≡ w / 2 = omega arith in
+    ((λ _ z. omega arith), λ _. half (w - 1) b ∙ ap (λ (x : ℕ). bit_of x b) e ∙ sym (half w b) ∙ p)
+before-bit w (suc a) zero o f p = absurd (omega (arith, f 0 p))
+before-bit w (suc a) (suc b) o f p =
+    let even : w % 2 ≡ 1 → ⊥ = λ z. omega (arith, f 0 (low w ∙ eq-eqb (w % 2) 1 z)) in
+    let pos : w ≡ 0 → ⊥ = λ z. zero-none w (suc a) z o in
+    let e : (w - 1) / 2 ≡ w / 2 - 1 = omega arith in
+    let h = before-bit (w / 2) a b (sym (half w a) ∙ o) (λ c q. omega (arith, f (suc c) (half w c ∙ q))) (sym (half w b) ∙ p) in (
+      (λ q z. h.0 (ap (λ (x : ℕ). bit_of x b) (sym e) ∙ sym (half (w - 1) b) ∙ q) (omega arith)),
+      λ n. half (w - 1) b ∙ ap (λ (x : ℕ). bit_of x b) e ∙ h.1 (λ z. n (omega arith)),
     )
 
--- A word with no set bit has not one alone.
-pub single-not : (w : ℕ) → w < 2 ^ 64 → 64 ≤ count_trailing_zeros 64 w → Single w → ⊥
-single-not w l z s =
-    let o : On w s.0 = subst (λ (x : ℕ). On x s.0) (sym s.1) (one_on s.0) in
-    let b = word_below 64 w s.0 l o in
-    false≢true (sym (trailing-clear 64 w s.0 (omega arith)) ∙ o)
+-- The bit at the count of trailing zeros is the first, and with the bits of the number before it the word has the others.
+pub first-bit : (w : ℕ) → w < 2 ^ 64 → (w ≡ 0 → ⊥) → FirstBit w (count_trailing_zeros 64 w) (bit_and w (w - 1))
+first-bit w l n =
+    let a = count_trailing_zeros 64 w in
+    let s = some-on w n in
+    let first : (b : ℕ) → On w b → a ≤ b = λ b p. at-most b p (dec_lt b a) in
+    let on = trailing-on 64 w (omega (arith, first s.0 s.1, word_below 64 w s.0 l s.1)) in
+    record {
+      on = on;
+      first = first;
+      others = λ b. (
+        (λ q. let p = and_left w (w - 1) b q in (p, (before-bit w a b on first p).0 (and_right w (w - 1) b q))),
+        λ q. and_both w (w - 1) b q.0 ((before-bit w a b on first q.0).1 q.1),
+      );
+    }
+  where
+    at-most : (b : ℕ) → On w b → Dec (b < count_trailing_zeros 64 w) → count_trailing_zeros 64 w ≤ b
+    at-most b p (yes q) = absurd (false≢true (sym (trailing-clear 64 w b q) ∙ p))
+    at-most b p (no q) = omega arith
 
--- The next set bit from a on is as far as `w >> a` has trailing zeros.
-pub next-is : (w a r : ℕ) → a ≤ r → r ≤ 64 → r ≤ a + count_trailing_zeros 64 (w / 2 ^ a)
-    → (r < 64 → r ≡ a + count_trailing_zeros 64 (w / 2 ^ a)) → NextBit w a r
-next-is w a r l u z f = record {
-  from = l;
-  upto = u;
-  clear = λ b lo hi.
-      let e : a + (b - a) ≡ b = omega arith in
-      ap (bit_of w) (sym e) ∙ sym (shift-bit w a (b - a)) ∙ trailing-clear 64 (w / 2 ^ a) (b - a) (omega arith);
-  on = λ h. let e = f h in ap (bit_of w) e ∙ sym (shift-bit w a (count_trailing_zeros 64 (w / 2 ^ a))) ∙ trailing-on 64 (w / 2 ^ a) (omega arith);
-}
+-- The word that is left is smaller.
+pub fewer : {w a v : ℕ} → FirstBit w a v → v < w
+fewer {w} {a} {v} f =
+    let l = subset-le v w (λ b p. ((f.others b).0 p).0) in
+    let n : v ≡ w → ⊥ = λ e. ((f.others a).0 (rw e f.on)).1 refl in
+    omega arith

@@ -26,8 +26,7 @@ use Rattle.calculus.specs.Cases as trees
 use Rattle.terms.specs.Record.{record8}
 use Rattle.terms.specs.Encode.{encode_program}
 use Rattle.refusal.specs.First.{first_from, first_below}
-use Rattle.refusal.specs.Refusal.{accepted, refuse_if, due_below, and_then}
-use Rattle.refusal.specs.declared.Verdict.{Verdict}
+use Rattle.refusal.specs.Refusal.{Verdict, accepted, refuse_if, due_below, and_then}
 use Rattle.script.specs.File.{file_of, program_in}
 use Rattle.script.specs.Check.{script_verdict, definition_count}
 use Rattle.script.specs.WellFormed.{InRanges, WellFormed}
@@ -44,9 +43,8 @@ use Rattle.machine.specs.Outcome.{outcome_of}
 use Rattle.machine.specs.declared.Outcome.{Outcome}
 use Rattle.machine.proofs.Program.{program-there}
 use Rattle.history.specs.Entries.{entries_buffer}
-use Rattle.rewritten.specs.Answer.{After, counts_of, ran_after, too_short}
-use Rattle.rewritten.specs.declared.RewrittenRun.{RewrittenRun}
-use Rattle.rewritten.specs.declared.RewrittenRun.TheVariants.{Ran}
+use Rattle.rewritten.specs.Answer.{RewrittenRun, After, counts_of, ran_after, too_short}
+use Rattle.rewritten.specs.Answer.RewrittenRun.{Ran}
 use Rattle.rehearsal.specs.Rehearsal.{rehearsal_due, answered, rehearsal_of}
 use Rattle.rehearsal.proofs.Runs.{written-ran}
 use Rattle.records.specs.Cases.{case_i}

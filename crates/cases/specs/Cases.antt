@@ -11,7 +11,7 @@ use Rattle.machine.specs.declared.Outcome.TheVariants.{Value, Stuck, Spent}
 use Rattle.history.specs.Entries.{entries_buffer}
 use Rattle.rewriting.specs.Answer.{written_file}
 use Rattle.rewritten.specs.Answer.{too_short}
-use Rattle.rewritten.specs.declared.RewrittenRun.TheVariants.{Ran}
+use Rattle.rewritten.specs.Answer.RewrittenRun.{Ran}
 use Rattle.rehearsal.specs.Rehearsal.{rehearsal_of}
 use Rattle.records.specs.Cases.{CaseH, CaseI, case_i}
 

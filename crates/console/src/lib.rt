@@ -11,23 +11,20 @@ ghost use Rattle.rehearsal.specs.Rehearsal as rehearsals;
 ghost use Rattle.answers.specs.Answers.{words_of, passed_word};
 ghost use Rattle.console.specs.Left.{leaves_words, derived_words, writes_words, written_words, ran_words, plain_run_words, logged_words, rewritten_run_words, rehearses_words, rehearsal_words};
 
-use answers::{
-    PlainWords, RewritingWords, RewrittenWords, VerdictWords, passed_word, plain_words,
-    rewriting_words, rewritten_words, verdict_words,
-};
+use answers::{PlainWords, RewritingWords, RewrittenWords, VerdictWords, passed_word};
 
 #[unsafe(no_mangle)]
 pub extern "C" fn lorgwin_check(script: &[u8], guideline: &[u8]) -> VerdictWords
     ensures { result ≡ words_of (check_of script.now guideline.now) }
 {
-    verdict_words(records::check(script, guideline))
+    VerdictWords::from(records::check(script, guideline))
 }
 
 #[unsafe(no_mangle)]
 pub extern "C" fn lorgwin_derive(guideline: &[u8], table: &mut [u8]) -> VerdictWords
     ensures { leaves_words table.new result ≡ derived_words (derive_of guideline.now table.old) }
 {
-    verdict_words(records::derive(guideline, table))
+    VerdictWords::from(records::derive(guideline, table))
 }
 
 #[unsafe(no_mangle)]
@@ -41,7 +38,7 @@ pub extern "C" fn lorgwin_pass_term(script: &[u8], at: u64) -> u64
 pub extern "C" fn lorgwin_rewrite(script: &[u8], guideline: &[u8], out: &mut [u8]) -> RewritingWords
     ensures { writes_words out.new result ≡ written_words (rewrites.rewriting script.now guideline.now out.old) }
 {
-    rewriting_words(rewriting::rewrite(script, guideline, out))
+    RewritingWords::from(rewriting::rewrite(script, guideline, out))
 }
 
 #[unsafe(no_mangle)]
@@ -53,7 +50,7 @@ pub extern "C" fn lorgwin_run_plain(
 ) -> PlainWords
     ensures { ran_words result expression.new scratch.new ≡ plain_run_words (plains.plain_of script.now budget expression.old scratch.old) }
 {
-    plain_words(plain::plain(script, budget, expression, scratch))
+    PlainWords::from(plain::plain(script, budget, expression, scratch))
 }
 
 #[unsafe(no_mangle)]
@@ -69,7 +66,7 @@ pub extern "C" fn lorgwin_run_rewritten(
 ) -> RewrittenWords
     ensures { logged_words result expression.new scratch.new history.new log.new table.new ≡ rewritten_run_words (runs.rewritten_of script.now guideline.now budget expression.old scratch.old history.old log.old table.old) }
 {
-    rewritten_words(rewritten::rewritten(
+    RewrittenWords::from(rewritten::rewritten(
         script, guideline, budget, expression, scratch, history, log, table,
     ))
 }
@@ -88,7 +85,7 @@ pub extern "C" fn lorgwin_rehearse(
 ) -> RewrittenWords
     ensures { rehearses_words out.new (logged_words result expression.new scratch.new history.new log.new table.new) ≡ rehearsal_words (rehearsals.rehearsal_of script.now guideline.now budget out.old expression.old scratch.old history.old log.old table.old) }
 {
-    rewritten_words(rehearsal::rehearse(
+    RewrittenWords::from(rehearsal::rehearse(
         script, guideline, budget, out, expression, scratch, history, log, table,
     ))
 }

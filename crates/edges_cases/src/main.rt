@@ -7,263 +7,240 @@
 // logged.
 #![tactic(auto)]
 
-ghost use Rattle.std.specs.Prelude.{◌*◌, ◌≤◌, length};
+use history::Entry;
+use samples::{GuidelineRecord, Numbers, ScriptRecord};
+use std::io;
 
-use rewritten::RewrittenRun;
+const OVERRIDE: u32 = 0;
+
+const FIRE: u32 = 1;
 
 // ---- scripts
 
-// Writes a record that is within the buffer.
-fn put(b: &mut [u8; 136], i: usize, kind: u8, number: u32) {
-    if i < 17 {
-        b[8 * i] = kind;
-        words::put_u32(b, 8 * i + 4, number);
+// Override and fire, with variable 0 as body.
+const DEFINITIONS: [ScriptRecord; 4] = [
+    ScriptRecord::Definition(OVERRIDE),
+    ScriptRecord::Variable(0),
+    ScriptRecord::Definition(FIRE),
+    ScriptRecord::Variable(0),
+];
+
+// A call of a function on a constant.
+#[derive(Clone, Copy)]
+struct Call {
+    function: u32,
+    x: u32,
+}
+
+impl Call {
+    fn records(self) -> [ScriptRecord; 3] {
+        [
+            ScriptRecord::Application,
+            ScriptRecord::Function(self.function),
+            ScriptRecord::Constant(self.x),
+        ]
     }
 }
 
-// Functions 0 (override) and 1 (fire), with variable 0 as body: records 0 to 3.
-fn define(b: &mut [u8; 136]) {
-    put(b, 0, 8, 0);
-    put(b, 1, 1, 0);
-    put(b, 2, 8, 1);
-    put(b, 3, 1, 0);
+// A call, and then another.
+fn in_turn(first: Call, second: Call) -> [ScriptRecord; 8] {
+    let [a, f, x] = first.records();
+    let [b, g, y] = second.records();
+    [
+        ScriptRecord::Application,
+        ScriptRecord::Abstraction(0),
+        b,
+        g,
+        y,
+        a,
+        f,
+        x,
+    ]
 }
 
-// From record i on, three: a function is called on a constant.
-fn call(b: &mut [u8; 136], i: usize, function: u32, x: u32)
-    requires { i ≤ 17 }
-{
-    put(b, i, 5, 0);
-    put(b, i + 1, 2, function);
-    put(b, i + 2, 3, x);
+fn fire(x: u32) -> Call {
+    Call { function: FIRE, x }
 }
 
-// From record 4 on, eight: a function is called on x, and then another on y.
-fn calls(b: &mut [u8; 136], first: u32, x: u32, second: u32, y: u32) {
-    put(b, 4, 5, 0);
-    put(b, 5, 4, 0);
-    call(b, 6, second, y);
-    call(b, 9, first, x);
-}
-
-// ---- guidelines
-
-// Writes a record that is within the buffer: its first four bytes and two numbers.
-fn put_rule(g: &mut [u8; 160], i: usize, head: [u8; 4], first: u32, second: u32) {
-    if i < 10 {
-        g[16 * i] = head[0];
-        g[16 * i + 1] = head[1];
-        g[16 * i + 2] = head[2];
-        g[16 * i + 3] = head[3];
-        words::put_u32(g, 16 * i + 4, first);
-        words::put_u32(g, 16 * i + 8, second);
+fn override_with(x: u32) -> Call {
+    Call {
+        function: OVERRIDE,
+        x,
     }
-}
-
-// The fact p0 of two constants.
-fn fact(g: &mut [u8; 160], i: usize, first: u32, second: u32) {
-    put_rule(g, i, [1, 0, 3, 3], first, second);
-}
-
-// Fire is logged.
-fn logged(g: &mut [u8; 160], i: usize) {
-    put_rule(g, i, [4, 0, 0, 0], 1, 0);
-}
-
-fn trigger(g: &mut [u8; 160], i: usize, function: u32) {
-    put_rule(g, i, [5, 0, 0, 0], function, 0);
 }
 
 // ---- lines
 
-fn print(n: u32, end: &[u8]) {
-    io::print_decimal(1, n as u64);
-    io::write_all(1, end);
-}
-
-// Prints an entry that is within the log.
-fn print_entry(log: &[u8; 16384], i: u32) {
-    if i < 1024 {
-        let at = 16 * i as usize;
-        print(words::get_u32(log, at), b" ");
-        print(words::get_u32(log, at + 4), b" ");
-        print(words::get_u32(log, at + 8), b" ");
-        print(words::get_u32(log, at + 12), b", ");
+fn print_log(rt: &HostRuntime, log: &[u8; 16384], n: u32) -> io::Result<()> {
+    // No log has more than 1,024 entries.
+    for i in 0..n.min(1024) as usize {
+        let Entry {
+            time,
+            function,
+            kind,
+            number,
+        } = history::entry_at(log, i);
+        print!(rt; "{time} {function} {kind} {number}, ")?;
     }
+    Ok(())
 }
 
-fn print_log(log: &[u8; 16384], n: u32) {
-    let mut i = 0;
-    while i < n {
-        print_entry(log, i);
-        i += 1;
-    }
-}
-
-// The line of a rehearsal. Its buffers are full before, so that whatever is read there has been written.
-fn rehearse(s: &[u8], g: &[u8], budget: u32) {
-    let mut out = [255u8; 10368];
-    let mut e = [255u8; 24576];
-    let mut scratch = [255u8; 24576];
-    let mut history = [255u8; 16384];
-    let mut log = [255u8; 16384];
-    let mut table = [255u8; 8192];
-    match rehearsal::rehearse(
-        s,
-        g,
-        budget,
-        &mut out,
-        &mut e,
-        &mut scratch,
-        &mut history,
-        &mut log,
-        &mut table,
-    ) {
-        RewrittenRun::Refused(v) => {
-            print(v.number, b" ");
-            print(v.place, b"\n");
-        }
-        RewrittenRun::Ran(outcome, counts) => {
-            print_log(&log, counts.log);
-            print(machine::outcome_number(outcome), b" ");
-            print(counts.steps, b"\n");
+// The line of a case: a main term after the definitions is rehearsed.
+fn case(
+    rt: &HostRuntime,
+    name: &str,
+    main: &[ScriptRecord],
+    rules: &[GuidelineRecord],
+    budget: u32,
+) -> io::Result<()> {
+    let mut records = Vec::from_array(rt.alloc(), DEFINITIONS)?;
+    records.extend_from_slice(main)?;
+    let script = samples::file_of(rt.alloc(), &records)?;
+    let guideline = samples::file_of(rt.alloc(), rules)?;
+    let run = samples::rehearse(&script, &guideline, budget);
+    print!(rt; "({name}) ")?;
+    match run.answer {
+        Err(refusal) => println!(rt; "{}", Numbers(Err(refusal))),
+        Ok(ran) => {
+            print_log(rt, &run.log, ran.counts.log)?;
+            println!(rt; "{} {}", u32::from(ran.outcome), ran.counts.steps)
         }
     }
-}
-
-// Rehearses the first n records of a script and the first m of a guideline, which the buffers have.
-fn rehearse_first(b: &[u8], n: usize, g: &[u8], m: usize, budget: u32)
-    requires n_in_bounds { 8 * n ≤ length b.now }
-    requires m_in_bounds { 16 * m ≤ length g.now }
-{
-    let end = 8 * n;
-    let stop = 16 * m;
-    rehearse(&b[..end], &g[..stop], budget);
-}
-
-// The arrays are lent on whole, since their lengths are known here.
-fn case(b: &[u8; 136], n: usize, g: &[u8; 160], m: usize, budget: u32)
-    requires n_bound { n ≤ 17 }
-    requires m_bound { m ≤ 10 }
-{
-    rehearse_first(b, n, g, m, budget);
 }
 
 // ---- cases
 
-// Two calls, where fire is logged with that trigger.
-fn two_calls(first: u32, x: u32, second: u32, y: u32, earlier: u32, budget: u32) {
-    let mut b = [0u8; 136];
-    let mut g = [0u8; 160];
-    define(&mut b);
-    calls(&mut b, first, x, second, y);
-    logged(&mut g, 0);
-    trigger(&mut g, 1, earlier);
-    case(&b, 12, &g, 2, budget);
-}
+// Fire is logged after a call of override.
+const AFTER_OVERRIDE: [GuidelineRecord; 2] = [
+    GuidelineRecord::Logged(FIRE),
+    GuidelineRecord::Trigger(OVERRIDE),
+];
 
 // (d) and (e): a main term without a call.
-fn no_calls() {
-    let mut b = [0u8; 136];
-    let mut g = [0u8; 160];
-    define(&mut b);
-    logged(&mut g, 0);
-    trigger(&mut g, 1, 0);
-    io::write_all(1, b"(d) ");
-    put(&mut b, 4, 3, 1);
-    case(&b, 5, &g, 2, 0);
-    io::write_all(1, b"(e) ");
-    put(&mut b, 4, 5, 0);
-    put(&mut b, 5, 3, 7);
-    put(&mut b, 6, 3, 7);
-    case(&b, 7, &g, 2, 1000);
+fn no_calls(rt: &HostRuntime) -> io::Result<()> {
+    case(rt, "d", &[ScriptRecord::Constant(1)], &AFTER_OVERRIDE, 0)?;
+    let stuck = [
+        ScriptRecord::Application,
+        ScriptRecord::Constant(7),
+        ScriptRecord::Constant(7),
+    ];
+    case(rt, "e", &stuck, &AFTER_OVERRIDE, 1000)
 }
 
 // (g): fire on an abstraction with label 9.
-fn label() {
-    let mut b = [0u8; 136];
-    let mut g = [0u8; 160];
-    define(&mut b);
-    put(&mut b, 4, 5, 0);
-    put(&mut b, 5, 2, 1);
-    put(&mut b, 6, 4, 9);
-    put(&mut b, 7, 1, 0);
-    logged(&mut g, 0);
-    case(&b, 8, &g, 1, 1000);
+fn label(rt: &HostRuntime) -> io::Result<()> {
+    let main = [
+        ScriptRecord::Application,
+        ScriptRecord::Function(FIRE),
+        ScriptRecord::Abstraction(9),
+        ScriptRecord::Variable(0),
+    ];
+    case(rt, "g", &main, &[GuidelineRecord::Logged(FIRE)], 1000)
+}
+
+fn head(first: u8, second: u8) -> GuidelineRecord {
+    GuidelineRecord::Head {
+        predicate: 1,
+        first,
+        second,
+    }
+}
+
+fn atom(predicate: u8, first: u8, second: u8) -> GuidelineRecord {
+    GuidelineRecord::Atom {
+        predicate,
+        first,
+        second,
+    }
 }
 
 // (h): p0(1, 2), p0(2, 3); p1(x, y) where p0(x, y); p1(x, z) where p0(x, y) and p1(y, z). Fire is logged where p1(x_1, x_0).
-fn closure(x: u32, y: u32) {
-    let mut b = [0u8; 136];
-    let mut g = [0u8; 160];
-    define(&mut b);
-    calls(&mut b, 0, x, 1, y);
-    fact(&mut g, 0, 1, 2);
-    fact(&mut g, 1, 2, 3);
-    put_rule(&mut g, 2, [2, 1, 0, 1], 0, 0);
-    put_rule(&mut g, 3, [3, 0, 0, 1], 0, 0);
-    put_rule(&mut g, 4, [2, 1, 0, 2], 0, 0);
-    put_rule(&mut g, 5, [3, 0, 0, 1], 0, 0);
-    put_rule(&mut g, 6, [3, 1, 1, 2], 0, 0);
-    logged(&mut g, 7);
-    trigger(&mut g, 8, 0);
-    put_rule(&mut g, 9, [7, 1, 1, 0], 0, 0);
-    case(&b, 12, &g, 10, 1000);
+fn closure(rt: &HostRuntime, x: u32, y: u32) -> io::Result<()> {
+    let rules = [
+        GuidelineRecord::Fact(1, 2),
+        GuidelineRecord::Fact(2, 3),
+        head(0, 1),
+        atom(0, 0, 1),
+        head(0, 2),
+        atom(0, 0, 1),
+        atom(1, 1, 2),
+        GuidelineRecord::Logged(FIRE),
+        GuidelineRecord::Trigger(OVERRIDE),
+        GuidelineRecord::Holds {
+            predicate: 1,
+            i: 1,
+            j: 0,
+        },
+    ];
+    case(rt, "h", &in_turn(override_with(x), fire(y)), &rules, 1000)
 }
 
 // (i): p0(1, 1). Fire is logged where p0(x_0, x_0), and called on 7, which no fact has, and then on 1.
-fn one_fact() {
-    let mut b = [0u8; 136];
-    let mut g = [0u8; 160];
-    define(&mut b);
-    calls(&mut b, 1, 7, 1, 1);
-    fact(&mut g, 0, 1, 1);
-    logged(&mut g, 1);
-    put_rule(&mut g, 2, [7, 0, 0, 0], 0, 0);
-    case(&b, 12, &g, 3, 1000);
+fn one_fact(rt: &HostRuntime) -> io::Result<()> {
+    let rules = [
+        GuidelineRecord::Fact(1, 1),
+        GuidelineRecord::Logged(FIRE),
+        GuidelineRecord::Holds {
+            predicate: 0,
+            i: 0,
+            j: 0,
+        },
+    ];
+    case(rt, "i", &in_turn(fire(7), fire(1)), &rules, 1000)
 }
 
 // (j): fire is logged with two triggers 0 where t_1 < t_2. The second run has a further override before.
-fn two_triggers() {
-    let mut b = [0u8; 136];
-    let mut g = [0u8; 160];
-    define(&mut b);
-    calls(&mut b, 0, 3, 1, 7);
-    logged(&mut g, 0);
-    trigger(&mut g, 1, 0);
-    trigger(&mut g, 2, 0);
-    put_rule(&mut g, 3, [6, 0, 1, 2], 0, 0);
-    io::write_all(1, b"(j) ");
-    case(&b, 12, &g, 4, 1000);
-    put(&mut b, 6, 5, 0);
-    put(&mut b, 7, 4, 0);
-    call(&mut b, 8, 1, 7);
-    call(&mut b, 11, 0, 4);
-    call(&mut b, 14, 0, 3);
-    io::write_all(1, b"(j) ");
-    case(&b, 17, &g, 4, 1000);
+fn two_triggers(rt: &HostRuntime) -> io::Result<()> {
+    let rules = [
+        GuidelineRecord::Logged(FIRE),
+        GuidelineRecord::Trigger(OVERRIDE),
+        GuidelineRecord::Trigger(OVERRIDE),
+        GuidelineRecord::Earlier { i: 1, j: 2 },
+    ];
+    let main = in_turn(override_with(3), fire(7));
+    case(rt, "j", &main, &rules, 1000)?;
+    let mut main = Vec::new(rt.alloc());
+    main.push(ScriptRecord::Application)?;
+    main.push(ScriptRecord::Abstraction(0))?;
+    main.extend_from_slice(&in_turn(override_with(4), fire(7)))?;
+    main.extend_from_slice(&override_with(3).records())?;
+    case(rt, "j", &main, &rules, 1000)
 }
 
-fn main() {
-    io::write_all(1, b"(a) ");
-    two_calls(0, 3, 1, 7, 0, 1000);
+fn main(rt: HostRuntime) -> io::Result<()> {
+    case(
+        &rt,
+        "a",
+        &in_turn(override_with(3), fire(7)),
+        &AFTER_OVERRIDE,
+        1000,
+    )?;
     // The budget cuts off the call of fire.
-    io::write_all(1, b"(b) ");
-    two_calls(0, 3, 1, 7, 0, 2);
+    case(
+        &rt,
+        "b",
+        &in_turn(override_with(3), fire(7)),
+        &AFTER_OVERRIDE,
+        2,
+    )?;
     // Override and fire exchanged.
-    io::write_all(1, b"(c) ");
-    two_calls(1, 3, 0, 7, 0, 1000);
-    no_calls();
+    case(
+        &rt,
+        "c",
+        &in_turn(fire(3), override_with(7)),
+        &AFTER_OVERRIDE,
+        1000,
+    )?;
+    no_calls(&rt)?;
     // Fire its own trigger.
-    io::write_all(1, b"(f) ");
-    two_calls(1, 5, 1, 7, 1, 1000);
-    io::write_all(1, b"(g) ");
-    label();
-    io::write_all(1, b"(h) ");
-    closure(1, 3);
-    io::write_all(1, b"(h) ");
-    closure(3, 1);
-    io::write_all(1, b"(i) ");
-    one_fact();
-    two_triggers();
+    let after_fire = [
+        GuidelineRecord::Logged(FIRE),
+        GuidelineRecord::Trigger(FIRE),
+    ];
+    case(&rt, "f", &in_turn(fire(5), fire(7)), &after_fire, 1000)?;
+    label(&rt)?;
+    closure(&rt, 1, 3)?;
+    closure(&rt, 3, 1)?;
+    one_fact(&rt)?;
+    two_triggers(&rt)
 }

@@ -5,246 +5,248 @@
 // is none. A refusal's line has only its number and its place.
 #![tactic(auto)]
 
-ghost use Rattle.std.specs.Prelude.{◌*◌, ◌≤◌, length};
+ghost use Rattle.std.specs.Prelude.{◌≤◌};
 
-use plain::PlainRun;
-use refusal::Verdict;
-use rewritten::RewrittenRun;
+use samples::{GuidelineRecord, Numbers, ScriptRecord};
+use std::alloc::{AllocError, Global};
+use std::io;
+use words::Number;
 
 // ---- scripts
 
-// Writes a record that is within the buffer.
-fn put(b: &mut [u8; 8200], i: usize, kind: u8, number: u32) {
-    if i < 1025 {
-        b[8 * i] = kind;
-        words::put_u32(b, 8 * i + 4, number);
-    }
+// Function 0 gives back its argument.
+const DEFINITION: [ScriptRecord; 2] = [ScriptRecord::Definition(0), ScriptRecord::Variable(0)];
+
+// The definition, and then a main term.
+fn script(alloc: Global, main: &[ScriptRecord]) -> Result<Vec<ScriptRecord>, AllocError> {
+    let mut records = Vec::from_array(alloc, DEFINITION)?;
+    records.extend_from_slice(main)?;
+    Ok(records)
 }
 
-// Makes each record an abstraction.
-fn fill(b: &mut [u8; 8200]) {
-    let mut i = 0;
-    while i < 1025 {
-        put(b, i, 4, 0);
-        i += 1;
-    }
-}
-
-// From record i on, three: a sum of two constants.
-fn sum(b: &mut [u8; 8200], i: usize, x: u32, y: u32)
-    requires { i ≤ 1025 }
+// A term of so many records: abstractions around a constant, the outermost with the label.
+fn push_term(script: &mut Vec<ScriptRecord>, label: u32, n: u32) -> Result<(), AllocError>
+    requires { 2 ≤ n }
 {
-    put(b, i, 9, 0);
-    put(b, i + 1, 3, x);
-    put(b, i + 2, 3, y);
+    script.push(ScriptRecord::Abstraction(label))?;
+    for _ in 2..n {
+        script.push(ScriptRecord::Abstraction(0))?;
+    }
+    script.push(ScriptRecord::Constant(0))?;
+    Ok(())
 }
 
-// From record i on, three: function 0 is called on a constant.
-fn call(b: &mut [u8; 8200], i: usize, x: u32)
-    requires { i ≤ 1025 }
+// A branch on a constant. Its second term has 511 records and label 2, its third has n and label 3.
+fn branch(alloc: Global, x: u32, n: u32) -> Result<Vec<ScriptRecord>, AllocError>
+    requires { 2 ≤ n }
 {
-    put(b, i, 5, 0);
-    put(b, i + 1, 2, 0);
-    put(b, i + 2, 3, x);
-}
-
-// Function 0 gives back its argument: records 0 and 1.
-fn define(b: &mut [u8; 8200]) {
-    put(b, 0, 8, 0);
-    put(b, 1, 1, 0);
-}
-
-// A branch on a constant, 1,024 records. The second and the third term have 511 each, abstractions around a constant, the outermost with
-// labels 2 and 3.
-fn branch(b: &mut [u8; 8200], x: u32) {
-    fill(b);
-    put(b, 0, 10, 0);
-    put(b, 1, 3, x);
-    put(b, 2, 4, 2);
-    put(b, 512, 3, 0);
-    put(b, 513, 4, 3);
-    put(b, 1023, 3, 0);
+    let mut records = Vec::new(alloc);
+    records.push(ScriptRecord::Branch)?;
+    records.push(ScriptRecord::Constant(x))?;
+    push_term(&mut records, 2, 511)?;
+    push_term(&mut records, 3, n)?;
+    Ok(records)
 }
 
 // ---- lines
 
-fn print(n: u32, end: &[u8]) {
-    io::print_decimal(1, n as u64);
-    io::write_all(1, end);
-}
-
-fn print_refusal(v: Verdict) {
-    print(v.number, b" ");
-    print(v.place, b"\n");
-}
-
-// The buffers of a run are full before, so that whatever is read there has been written.
-fn run_plain(s: &[u8], budget: u32) {
-    let mut e = [255u8; 24576];
-    let mut scratch = [255u8; 24576];
-    io::write_all(1, b"plain ");
-    match plain::plain(s, budget, &mut e, &mut scratch) {
-        PlainRun::Refused(v) => print_refusal(v),
-        PlainRun::Ran(outcome, steps) => {
-            print(machine::outcome_number(outcome), b" ");
-            print(steps, b" ");
-            print(words::get_u32(&e, 0), b" ");
-            print(words::get_u32(&e, 4), b"\n");
-        }
+fn run_plain(rt: &HostRuntime, script: &[u8], budget: u32) -> io::Result<()> {
+    let run = samples::run_plain(script, budget);
+    match run.answer {
+        Err(refusal) => println!(rt; "plain {}", Numbers(Err(refusal))),
+        Ok(ran) => println!(rt;
+            "plain {} {} {} {}",
+            u32::from(ran.outcome),
+            ran.steps,
+            u32::read(&run.expression, 0),
+            u32::read(&run.expression, 4),
+        ),
     }
 }
 
-fn rehearse(s: &[u8], g: &[u8], budget: u32) {
-    let mut out = [255u8; 10368];
-    let mut e = [255u8; 24576];
-    let mut scratch = [255u8; 24576];
-    let mut history = [255u8; 16384];
-    let mut log = [255u8; 16384];
-    let mut table = [255u8; 8192];
-    io::write_all(1, b"rewritten ");
-    match rehearsal::rehearse(
-        s,
-        g,
-        budget,
-        &mut out,
-        &mut e,
-        &mut scratch,
-        &mut history,
-        &mut log,
-        &mut table,
-    ) {
-        RewrittenRun::Refused(v) => print_refusal(v),
-        RewrittenRun::Ran(outcome, counts) => {
-            print(machine::outcome_number(outcome), b" ");
-            print(counts.steps, b" ");
-            print(counts.history, b" ");
-            print(words::get_u32(&history, 0), b"\n");
-        }
+fn rehearse(rt: &HostRuntime, script: &[u8], guideline: &[u8], budget: u32) -> io::Result<()> {
+    let run = samples::rehearse(script, guideline, budget);
+    match run.answer {
+        Err(refusal) => println!(rt; "rewritten {}", Numbers(Err(refusal))),
+        Ok(ran) => println!(rt;
+            "rewritten {} {} {} {}",
+            u32::from(ran.outcome),
+            ran.counts.steps,
+            ran.counts.history,
+            u32::read(&run.history, 0),
+        ),
     }
 }
 
-// Runs the first n records, which the buffer has.
-fn run_first(b: &[u8], n: usize, g: &[u8], budget: u32)
-    requires { 8 * n ≤ length b.now }
-{
-    let end = 8 * n;
-    let s = &b[..end];
-    run_plain(s, budget);
-    rehearse(s, g, budget);
+fn run(rt: &HostRuntime, script: &[u8], guideline: &[u8], budget: u32) -> io::Result<()> {
+    run_plain(rt, script, budget)?;
+    rehearse(rt, script, guideline, budget)
 }
 
-// The array is lent on whole, since its length is known here.
-fn edge(b: &[u8; 8200], n: usize, g: &[u8], budget: u32)
-    requires { n ≤ 1025 }
-{
-    run_first(b, n, g, budget);
+// Runs a script under no guideline.
+fn edge(rt: &HostRuntime, records: &[ScriptRecord], budget: u32) -> io::Result<()> {
+    let script = samples::file_of(rt.alloc(), records)?;
+    run(rt, &script, b"", budget)
+}
+
+// Runs a main term after the definition, with function 0 logged at each call.
+fn logged(rt: &HostRuntime, main: &[ScriptRecord]) -> io::Result<()> {
+    let records = script(rt.alloc(), main)?;
+    let script = samples::file_of(rt.alloc(), &records)?;
+    let guideline = samples::file_of(rt.alloc(), &[GuidelineRecord::Logged(0)])?;
+    run(rt, &script, &guideline, 1000)
 }
 
 // ---- edges
 
 // The greatest constant is reached in a step, for which a budget of 0 is too small. One more is stuck, on that budget too.
-fn greatest() {
-    let mut b = [0u8; 8200];
-    sum(&mut b, 0, 4294967294, 1);
-    edge(&b, 3, b"", 1);
-    edge(&b, 3, b"", 0);
-    sum(&mut b, 0, 4294967295, 1);
-    edge(&b, 3, b"", 0);
+fn greatest(rt: &HostRuntime) -> io::Result<()> {
+    let within = [
+        ScriptRecord::Sum,
+        ScriptRecord::Constant(4294967294),
+        ScriptRecord::Constant(1),
+    ];
+    edge(rt, &within, 1)?;
+    edge(rt, &within, 0)?;
+    let above = [
+        ScriptRecord::Sum,
+        ScriptRecord::Constant(4294967295),
+        ScriptRecord::Constant(1),
+    ];
+    edge(rt, &above, 0)
 }
 
 // A constant that is a sum is called on as any other, a step later; in function position it is stuck.
-fn around(g: &[u8]) {
-    let mut b = [0u8; 8200];
-    define(&mut b);
-    put(&mut b, 2, 5, 0);
-    put(&mut b, 3, 2, 0);
-    sum(&mut b, 4, 1, 2);
-    edge(&b, 7, g, 1000);
-    sum(&mut b, 3, 1, 2);
-    put(&mut b, 6, 3, 4);
-    edge(&b, 7, g, 1000);
+fn around(rt: &HostRuntime) -> io::Result<()> {
+    logged(
+        rt,
+        &[
+            ScriptRecord::Application,
+            ScriptRecord::Function(0),
+            ScriptRecord::Sum,
+            ScriptRecord::Constant(1),
+            ScriptRecord::Constant(2),
+        ],
+    )?;
+    logged(
+        rt,
+        &[
+            ScriptRecord::Application,
+            ScriptRecord::Sum,
+            ScriptRecord::Constant(1),
+            ScriptRecord::Constant(2),
+            ScriptRecord::Constant(4),
+        ],
+    )
 }
 
 // A sum of what is no constant, a function name and then an abstraction, and a call: the call is made before the sum is stuck.
-fn no_sums(g: &[u8]) {
-    let mut b = [0u8; 8200];
-    define(&mut b);
-    put(&mut b, 2, 9, 0);
-    put(&mut b, 3, 2, 0);
-    call(&mut b, 4, 1);
-    edge(&b, 7, g, 1000);
-    put(&mut b, 3, 4, 0);
-    put(&mut b, 4, 1, 0);
-    call(&mut b, 5, 1);
-    edge(&b, 8, g, 1000);
+fn no_sums(rt: &HostRuntime) -> io::Result<()> {
+    logged(
+        rt,
+        &[
+            ScriptRecord::Sum,
+            ScriptRecord::Function(0),
+            ScriptRecord::Application,
+            ScriptRecord::Function(0),
+            ScriptRecord::Constant(1),
+        ],
+    )?;
+    logged(
+        rt,
+        &[
+            ScriptRecord::Sum,
+            ScriptRecord::Abstraction(0),
+            ScriptRecord::Variable(0),
+            ScriptRecord::Application,
+            ScriptRecord::Function(0),
+            ScriptRecord::Constant(1),
+        ],
+    )
 }
 
 // A branch on a record, with 5 as its second term and a call on 6 as its third.
-fn choose(kind: u8, number: u32, g: &[u8]) {
-    let mut b = [0u8; 8200];
-    define(&mut b);
-    put(&mut b, 2, 10, 0);
-    put(&mut b, 3, kind, number);
-    put(&mut b, 4, 3, 5);
-    call(&mut b, 5, 6);
-    edge(&b, 8, g, 1000);
+fn choose(rt: &HostRuntime, on: ScriptRecord) -> io::Result<()> {
+    logged(
+        rt,
+        &[
+            ScriptRecord::Branch,
+            on,
+            ScriptRecord::Constant(5),
+            ScriptRecord::Application,
+            ScriptRecord::Function(0),
+            ScriptRecord::Constant(6),
+        ],
+    )
 }
 
 // The same on an abstraction, which has two records.
-fn choose_abstraction(g: &[u8]) {
-    let mut b = [0u8; 8200];
-    define(&mut b);
-    put(&mut b, 2, 10, 0);
-    put(&mut b, 3, 4, 0);
-    put(&mut b, 4, 1, 0);
-    put(&mut b, 5, 3, 5);
-    call(&mut b, 6, 6);
-    edge(&b, 9, g, 1000);
+fn choose_abstraction(rt: &HostRuntime) -> io::Result<()> {
+    logged(
+        rt,
+        &[
+            ScriptRecord::Branch,
+            ScriptRecord::Abstraction(0),
+            ScriptRecord::Variable(0),
+            ScriptRecord::Constant(5),
+            ScriptRecord::Application,
+            ScriptRecord::Function(0),
+            ScriptRecord::Constant(6),
+        ],
+    )
 }
 
 // 1,024 and 1,025 records with a branch as the first.
-fn sizes() {
-    let mut b = [0u8; 8200];
-    branch(&mut b, 0);
-    edge(&b, 1024, b"", 1000);
-    branch(&mut b, 1);
-    edge(&b, 1024, b"", 1000);
-    put(&mut b, 1023, 4, 0);
-    put(&mut b, 1024, 3, 0);
-    edge(&b, 1025, b"", 1000);
+fn sizes(rt: &HostRuntime) -> io::Result<()> {
+    edge(rt, &branch(rt.alloc(), 0, 511)?, 1000)?;
+    edge(rt, &branch(rt.alloc(), 1, 511)?, 1000)?;
+    edge(rt, &branch(rt.alloc(), 1, 512)?, 1000)
 }
 
 // A number other than 0 in a sum and in a branch, kind 11 inside a sum, a branch with two terms, a spare byte.
-fn refusals() {
-    let mut b = [0u8; 8200];
-    sum(&mut b, 0, 1, 2);
-    put(&mut b, 3, 3, 3);
-    put(&mut b, 0, 9, 1);
-    edge(&b, 3, b"", 1000);
-    put(&mut b, 0, 10, 1);
-    edge(&b, 4, b"", 1000);
-    put(&mut b, 0, 9, 0);
-    put(&mut b, 1, 11, 0);
-    edge(&b, 3, b"", 1000);
-    put(&mut b, 0, 10, 0);
-    put(&mut b, 1, 3, 1);
-    edge(&b, 3, b"", 1000);
-    b[1] = 1;
-    edge(&b, 4, b"", 1000);
+fn refusals(rt: &HostRuntime) -> io::Result<()> {
+    let (one, two, three) = (
+        ScriptRecord::Constant(1),
+        ScriptRecord::Constant(2),
+        ScriptRecord::Constant(3),
+    );
+    let sum = ScriptRecord::Faulty {
+        kind: 9,
+        spare: 0,
+        number: 1,
+    };
+    edge(rt, &[sum, one, two], 1000)?;
+    let branch = ScriptRecord::Faulty {
+        kind: 10,
+        spare: 0,
+        number: 1,
+    };
+    edge(rt, &[branch, one, two, three], 1000)?;
+    let unknown = ScriptRecord::Faulty {
+        kind: 11,
+        spare: 0,
+        number: 0,
+    };
+    edge(rt, &[ScriptRecord::Sum, unknown, two], 1000)?;
+    edge(rt, &[ScriptRecord::Branch, one, two], 1000)?;
+    let spare = ScriptRecord::Faulty {
+        kind: 10,
+        spare: 1,
+        number: 0,
+    };
+    edge(rt, &[spare, one, two, three], 1000)
 }
 
-fn main() {
-    // Function 0 is logged at each call.
-    let g = [4u8, 0, 0, 0, 0, 0, 0, 0, 0, 0, 0, 0, 0, 0, 0, 0];
-    greatest();
-    around(&g);
-    no_sums(&g);
+fn main(rt: HostRuntime) -> io::Result<()> {
+    greatest(&rt)?;
+    around(&rt)?;
+    no_sums(&rt)?;
     // On 0 the third term is not taken, and so the call in it is not made.
-    choose(3, 0, &g);
-    choose(3, 1, &g);
-    choose(3, 4294967295, &g);
-    choose(2, 0, &g);
-    choose_abstraction(&g);
-    sizes();
-    refusals();
+    choose(&rt, ScriptRecord::Constant(0))?;
+    choose(&rt, ScriptRecord::Constant(1))?;
+    choose(&rt, ScriptRecord::Constant(4294967295))?;
+    choose(&rt, ScriptRecord::Function(0))?;
+    choose_abstraction(&rt)?;
+    sizes(&rt)?;
+    refusals(&rt)
 }

@@ -2,15 +2,14 @@
 -- longer than the limit too. Assumes nothing.
 use mathlib.Core.Bool.{Bool, true, false}
 use mathlib.Core.List.{List}
-use mathlib.Core.Option.{some}
+use Rattle.std.specs.Prelude.{Some}
 use mathlib.Core.Path.{◌≡◌, refl, sym, ◌∙◌}
 use Prim.Native.Nat.{ℕ, ◌/◌, ◌%◌, ◌<◌}
 use native.Mathlib.Omega.{arith}
 use lib.Dec.{eqb}
 use lib.ListN.{length}
 use borrow.Author.Tests.{ne_eqb, eqb-true, lt-ltb}
-use Rattle.refusal.specs.Refusal.{verdict, accepted, refuse-due, then-refused, then-passed}
-use Rattle.refusal.specs.declared.Verdict.{Verdict}
+use Rattle.refusal.specs.Refusal.{Verdict, verdict, accepted, refuse-due, then-refused, then-passed}
 use Rattle.script.specs.File.{file_of}
 use Rattle.script.specs.Check.{due1, script_verdict, definition_count}
 use Rattle.script.specs.declared.Purpose.TheVariants.{Checking}
@@ -23,10 +22,10 @@ use Rattle.listing.proofs.Printed.{listing-refused}
 -- ---- scripts
 
 -- Its length is no multiple of 8, or there are too many records.
-script-due : (s : List ℕ) → 8192 < length s → due1 Checking s ≡ some 0
+script-due : (s : List ℕ) → 8192 < length s → due1 Checking s ≡ Some 0
 script-due s h = on (eqb (length s % 8) 0) refl
   where
-    on : (b : Bool) → eqb (length s % 8) 0 ≡ b → due1 Checking s ≡ some 0
+    on : (b : Bool) → eqb (length s % 8) 0 ≡ b → due1 Checking s ≡ Some 0
     on true q =
         let m = eqb-true (length s % 8) 0 q in
         rw (ne_eqb (length s) 0 (λ z. omega arith), q, lt-ltb 1024 (length s / 8) (omega arith)) refl
@@ -39,10 +38,10 @@ script-refused s h = sym (refuse-due 1 _ (script-due s h))
 -- ---- guidelines
 
 -- Its length is no multiple of 16, or there are too many records.
-guideline-due : (g : List ℕ) → 4096 < length g → due11 g ≡ some 0
+guideline-due : (g : List ℕ) → 4096 < length g → due11 g ≡ Some 0
 guideline-due g h = on (eqb (length g % 16) 0) refl
   where
-    on : (b : Bool) → eqb (length g % 16) 0 ≡ b → due11 g ≡ some 0
+    on : (b : Bool) → eqb (length g % 16) 0 ≡ b → due11 g ≡ Some 0
     on true q = let m = eqb-true (length g % 16) 0 q in rw (q, lt-ltb 256 (length g / 16) (omega arith)) refl
     on false q = rw q refl
 

@@ -12,8 +12,7 @@ use Rattle.words.specs.Bytes.{AllBytes}
 use Rattle.words.specs.Filled.{zeros, zeros-length}
 use Rattle.calculus.specs.Term.{Program}
 use Rattle.calculus.specs.Rewriting.{rewrite}
-use Rattle.refusal.specs.Refusal.{accepted, refuse_if, and_then, then-zero}
-use Rattle.refusal.specs.declared.Verdict.{Verdict}
+use Rattle.refusal.specs.Refusal.{Verdict, accepted, refuse_if, and_then, then-zero}
 use Rattle.script.specs.File.{file_of}
 use Rattle.script.specs.Check.{script_verdict, definition_count}
 use Rattle.script.specs.declared.Purpose.TheVariants.{Checking, Rewriting}
@@ -24,8 +23,7 @@ use Rattle.rewriting.specs.Answer.{written_file, rewriting_verdict}
 use Rattle.rewriting.proofs.Passing.{Passed, script-passed, passed, script-program, written_is}
 use Rattle.rewriting.proofs.Formed.{written-formed}
 use Rattle.rewritten.specs.Answer as runs
-use Rattle.rewritten.specs.Answer.{too_short, rewritten_of}
-use Rattle.rewritten.specs.declared.RewrittenRun.{RewrittenRun}
+use Rattle.rewritten.specs.Answer.{RewrittenRun, too_short, rewritten_of}
 use Rattle.rehearsal.specs.Claim.{Demand3}
 use Rattle.rehearsal.specs.Rehearsal.{rehearsal_due, answered}
 use Rattle.rehearsal.proofs.Demand3.{demand-3-file}

@@ -4,21 +4,14 @@
 
 mod text;
 
-ghost use Rattle.std.specs.Prelude.{IfOk};
+ghost use Rattle.std.specs.Prelude.{IfOk, IfSome};
 ghost use Rattle.io.specs.Counts.{IsPrefixLen};
-ghost use Rattle.listing.specs.Input.{Within};
 
 use std::fs::File;
 use std::io::{Error, ErrorKind, Read, Result as IoResult, Write};
 
-// What a file gave: so many bytes of a buffer, or that it could not be read.
-#[derive(Clone, Copy)]
-enum Input {
-    Bytes(usize),
-    Unreadable,
-}
-
-// Reads until the buffer is full or the file has ended. It is then full, or the file has been seen to end.
+// Reads until the buffer is full or the file has ended. It is then full, or the file has been seen to end. A read may give any part of what is
+// wanted, so no `for` counts the reads, and std's `read_to_end` has no buffer of a caller's.
 fn read_full(file: &mut File, buffer: &mut [u8]) -> IoResult<usize>
     ensures { IfOk result (λ n. IsPrefixLen n buffer.new) }
 {
@@ -39,31 +32,31 @@ fn tell(rt: &HostRuntime, name: &str, error: Error) {
     let _told = eprintln!(rt; "{name}: {error}").is_ok();
 }
 
-// Where a read failed, what came is not the file.
-fn read_open(rt: &HostRuntime, name: &str, file: &mut File, buffer: &mut [u8]) -> Input
-    ensures { Within result buffer.new }
+// How many bytes a file gave. None where a read failed: what came is not the file.
+fn read_open(rt: &HostRuntime, name: &str, file: &mut File, buffer: &mut [u8]) -> Option<usize>
+    ensures { IfSome result (λ n. IsPrefixLen n buffer.new) }
 {
     match read_full(file, buffer) {
-        Ok(n) => Input::Bytes(n),
+        Ok(n) => Some(n),
         Err(error) => {
             tell(rt, name, error);
-            Input::Unreadable
+            None
         }
     }
 }
 
 // "a missing file reads as empty". One that is there and cannot be read does not: a guideline taken for empty would log nothing.
-fn read_file(rt: &HostRuntime, name: &str, buffer: &mut [u8]) -> Input
-    ensures { Within result buffer.new }
+fn read_file(rt: &HostRuntime, name: &str, buffer: &mut [u8]) -> Option<usize>
+    ensures { IfSome result (λ n. IsPrefixLen n buffer.new) }
 {
     match File::open(rt, name) {
         Ok(mut file) => read_open(rt, name, &mut file, buffer),
         Err(error) => {
             if error.kind() == ErrorKind::NotFound {
-                return Input::Bytes(0);
+                return Some(0);
             }
             tell(rt, name, error);
-            Input::Unreadable
+            None
         }
     }
 }
@@ -72,10 +65,10 @@ fn read_file(rt: &HostRuntime, name: &str, buffer: &mut [u8]) -> Input
 fn main(rt: HostRuntime) -> IoResult<()> {
     let mut script = [0u8; 8200];
     let mut guideline = [0u8; 4112];
-    let Input::Bytes(s) = read_file(&rt, "show.scr", &mut script) else {
+    let Some(s) = read_file(&rt, "show.scr", &mut script) else {
         return Ok(());
     };
-    let Input::Bytes(g) = read_file(&rt, "show.gl", &mut guideline) else {
+    let Some(g) = read_file(&rt, "show.gl", &mut guideline) else {
         return Ok(());
     };
     let mut text = io::large_buffer();

@@ -3,13 +3,14 @@
 use mathlib.Core.Bool.{true, false}
 use mathlib.Core.List.{List}
 use mathlib.Core.Logic.{◌⊎◌, inl, inr, ⊎_elim}
-use mathlib.Core.Option.{Option, none, some, IsSome}
+use mathlib.Core.Option.{Option as Maybe, none, some, IsSome}
 use mathlib.Core.Path.{◌≡◌, refl, sym, ap, ap₂, subst, ◌∙◌}
 use Prim.Native.Nat.{ℕ, ◌+◌, ◌-◌, ◌*◌, ◌/◌, ◌<◌, ◌≤◌}
 use native.Mathlib.Decide.{ℕ_discrete}
 use native.Mathlib.Omega.{arith}
 use lib.ListN.{length, take, drop, get_or}
 use borrow.Author.Tests.{eq-eqb, ne_eqb, le-leb, lt-leb}
+use Rattle.std.specs.Prelude.{Option, Some, None, is_some}
 use Rattle.words.specs.Bytes.{part}
 use Rattle.words.specs.Put.{put, part-put}
 use Rattle.calculus.specs.Term.{Term, Codebase, view, view_of, records, size, Bare, Defined, codebase}
@@ -25,8 +26,6 @@ use Rattle.terms.specs.Read.{term_at}
 use Rattle.terms.specs.Encode.{encode, Fits}
 use Rattle.terms.proofs.Encode.{encode-length, term-at}
 use Rattle.substitution.specs.Copied.{copied, Lies, WrittenIs}
-use Rattle.substitution.specs.declared.Substituted.{Substituted}
-use Rattle.substitution.specs.declared.Substituted.TheVariants.{Done, Full}
 use Rattle.substitution.proofs.Laws.{copied-encode, put-fits, lies}
 use Rattle.zipper.specs.Frame.{Frame, plug}
 use Rattle.zipper.specs.Zipper.{whole_in, end_at, ZipOf, Poised}
@@ -39,10 +38,8 @@ use Rattle.zipper.proofs.Sums.{added-step, first_read, second-read, added-inside
 use Rattle.script.specs.File.{program_in}
 use Rattle.machine.specs.Program.{code_in}
 use Rattle.machine.specs.Bodies.{BodyAt, Positions}
-use Rattle.machine.specs.Fire.{body_for, Source, Ready, FiredIs, FitsIs}
+use Rattle.machine.specs.Fire.{body_for, Source, Around, Ready, FiredIs, FitsIs}
 use Rattle.machine.specs.Choice.{Addends, summed, third_at, second_to, Fork, moved, ChoiceIs}
-use Rattle.machine.specs.declared.Fired.{Fired}
-use Rattle.machine.specs.declared.Fired.TheVariants.{Made, Over}
 use Rattle.machine.proofs.Strip.{stripped-from}
 
 -- ---- bodies
@@ -63,7 +60,7 @@ pub record HasBody (C : Codebase) (f : ℕ) : Type 0 where
 has_body : (C : Codebase) (f : ℕ) → IsSome (C f) → HasBody C f
 has_body C f h = on (C f) refl h
   where
-    on : (o : Option Term) → C f ≡ o → IsSome o → HasBody C f
+    on : (o : Maybe Term) → C f ≡ o → IsSome o → HasBody C f
     on none e k = absurd k
     on (some b) e k = record { body = b; is = e }
 
@@ -191,11 +188,11 @@ module _ (e s bodies : List ℕ) (p : ℕ) where
 next-same : {a c : Event} {t u : Term} → next a t ≡ next c u → t ≡ u
 next-same e = cc
 
-module _ (w o : List ℕ) (most : ℕ) (x : Substituted) (o' : List ℕ) (g : WrittenIs w most o 0 x o') where
-  written-done : (q : ℕ) → x ≡ Done q → (q ≡ 0 + length w) × (q ≤ most) × (o' ≡ put o 0 w)
+module _ (w o : List ℕ) (x : Option ℕ) (o' : List ℕ) (g : WrittenIs w o 0 x o') where
+  written-done : (q : ℕ) → x ≡ Some q → (q ≡ 0 + length w) × (q ≤ length o) × (o' ≡ put o 0 w)
   written-done q d = rw d at g
 
-  written-full : x ≡ Full → (most < 0 + length w) × (length o' ≡ length o)
+  written-full : x ≡ None → (length o < 0 + length w) × (length o' ≡ length o)
   written-full d = rw d at g
 
 -- A step that was made in the buffer.
@@ -215,7 +212,7 @@ module _ {C : Codebase} {T : Term} {ev : Event} {e' fs : List ℕ} {p r' n : ℕ
 
 -- Made whatever entries hold T's frames, it is what firing answers.
 pub landed-fired : {C : Codebase} {T : Term} {e e' : List ℕ} {p l r r' : ℕ} → Ready C e p l r T
-    → ((fs : List ℕ) (n : ℕ) → Poised e fs p l r n T → (ev : Event) × Landed C T ev e' fs p r' n) → FiredIs T (step C T) p l r (Made r') e e'
+    → ((fs : List ℕ) (n : ℕ) → Poised e fs p l r n T → (ev : Event) × Landed C T ev e' fs p r' n) → FiredIs T (step C T) p l r (Some r') e e'
 landed-fired {e' = e'} {p = p} {r' = r'} h go =
     let w = (go h.entries h.frames h.poised).1 in
     rw w.steps (
@@ -232,22 +229,18 @@ module _ {e s bodies : List ℕ} {p l r : ℕ} {T : Term} (h : Ready (code_in s)
   pub ready-source : Source e s bodies p
   ready-source = (reduct here h.defined b).source
 
+  -- What `room` asks.
+  pub ready-around : Around e p r
+  ready-around =
+      let f = facts here (end_at e r) refl in
+      record { wide = f.wide; begins = f.begins; within = f.in_all; small = f.around }
+
   module _ (end : ℕ) (at : end ≡ end_at e r) where
-    -- The numbers of a step.
-    pub record Numbers : Type 0 where
-      pub in_all : end ≤ 3072
-      pub begins : r < end
-      pub around : p + (3072 - end) < 1024
-      pub wide : length e ≡ 24576
-
-    pub numbers : Numbers
-    numbers = let f = facts here end at in record { in_all = f.in_all; begins = f.begins; around = f.around; wide = f.wide }
-
     -- The records that the limit leaves for the redex's result.
     abbrev room : ℕ
     room = 8 * (1024 - (p + (3072 - end)))
 
-    module _ (most : ℕ) (o : List ℕ) (x : Substituted) (o' : List ℕ) (g : WrittenIs (copied 0 (take (8 * end - 8 * r) (drop (8 * r) e)) (body_for e s bodies p)) most o 0 x o') where
+    module _ (o : List ℕ) (x : Option ℕ) (o' : List ℕ) (g : WrittenIs (copied 0 (take (8 * end - 8 * r) (drop (8 * r) e)) (body_for e s bodies p)) o 0 x o') where
       module _ {fs : List ℕ} {n : ℕ} (k : Applied e fs p l r n T) where
         red : Reduct (code_in s) e s bodies p k.frames k.argument T
         red = reduct k h.defined b
@@ -256,9 +249,9 @@ module _ {e s bodies : List ℕ} {p l r : ℕ} {T : Term} (h : Ready (code_in s)
         result : Term
         result = put_term 0 k.argument red.body
 
-        written : WrittenIs (encode result) most o 0 x o'
+        written : WrittenIs (encode result) o 0 x o'
         unfolding result
-        written = subst (λ (w : List ℕ). WrittenIs w most o 0 x o') (ap₂ (copied 0) (argument-part k end at) red.is ∙ copied-encode 0 k.argument red.body) g
+        written = subst (λ (w : List ℕ). WrittenIs w o 0 x o') (ap₂ (copied 0) (argument-part k end at) red.is ∙ copied-encode 0 k.argument red.body) g
 
         bare : Bare result
         unfolding result
@@ -278,53 +271,60 @@ module _ {e s bodies : List ℕ} {p l r : ℕ} {T : Term} (h : Ready (code_in s)
         unfolding result
         goes = red.goes
 
-        module _ (q : ℕ) (d : x ≡ Done q) where
+        module _ (q : ℕ) (d : x ≡ Some q) where
           counted : q ≡ 8 * records result
-          counted = omega (arith, (written-done (encode result) o most x o' written q d).0, encode-length result)
+          counted = omega (arith, (written-done (encode result) o x o' written q d).0, encode-length result)
 
-          small : most ≤ room → records (plug k.frames result) ≤ 1024
-          small l = let a = (written-done (encode result) o most x o' written q d).1 in room_small k end at result q counted (omega arith)
+          small : length o ≤ room → records (plug k.frames result) ≤ 1024
+          small l = let a = (written-done (encode result) o x o' written q d).1 in room_small k end at result q counted (omega arith)
 
-          zipped : most ≤ room → most ≤ length o → (e' : List ℕ) → e' ≡ put e (8 * end - q) (part o' 0 q) → ZipOf e' fs p (end - q / 8) (n - 1) (plug k.frames result)
-          zipped l f e' m =
+          zipped : length o ≤ room → (e' : List ℕ) → e' ≡ put e (8 * end - q) (part o' 0 q) → ZipOf e' fs p (end - q / 8) (n - 1) (plug k.frames result)
+          zipped l e' m =
               let w : List ℕ = encode result in
-              let a = written-done w o most x o' written q d in
+              let a = written-done w o x o' written q d in
               let c : length w ≡ q = omega (arith, a.0) in
               let z : part o' 0 q ≡ w = ap (λ (y : List ℕ). part y 0 q) a.2 ∙ part-put o 0 w (omega (arith, a.1)) q c in
               contracted k end at result bare fits (small l) q counted e' (m ∙ ap (put e (8 * end - q)) z)
 
       -- The bytes that were written.
-      pub fire-room : (q : ℕ) → x ≡ Done q → q ≤ most
-      fire-room q d = (written-done (encode (result here)) o most x o' (written here) q d).1
+      pub fire-room : (q : ℕ) → x ≡ Some q → q ≤ length o
+      fire-room q d = (written-done (encode (result here)) o x o' (written here) q d).1
 
       -- Written and copied into place.
-      pub fire-made : most ≤ room → (q : ℕ) → x ≡ Done q → most ≤ length o → (e' : List ℕ) → e' ≡ put e (8 * end - q) (part o' 0 q)
-          → FiredIs T (step (code_in s) T) p l r (Made (end - q / 8)) e e'
-      fire-made l q d f e' m =
+      pub fire-made : length o ≤ room → (q : ℕ) → x ≡ Some q → (e' : List ℕ) → e' ≡ put e (8 * end - q) (part o' 0 q)
+          → FiredIs T (step (code_in s) T) p l r (Some (end - q / 8)) e e'
+      fire-made l q d e' m =
           landed-fired h (λ fs n k.
           let a = applied-at k five in
-          ((red a).event, record { expr = plug a.frames (result a); steps = goes a; zip = zipped a q d l f e' m }))
+          ((red a).event, record { expr = plug a.frames (result a); steps = goes a; zip = zipped a q d l e' m }))
 
       -- No room for it: the next expression is large.
-      pub fire-over : room ≤ most → x ≡ Full → FiredIs T (step (code_in s) T) p l r Over e e
+      pub fire-over : room ≤ length o → x ≡ None → FiredIs T (step (code_in s) T) p l r None e e
       fire-over l d =
           let k = here in
-          let a = written-full (encode (result k)) o most x o' (written k) d in
+          let a = written-full (encode (result k)) o x o' (written k) d in
           let c : room < 8 * records (result k) = omega (arith, a.0, encode-length (result k)) in
           rw (goes k) (omega (arith, whole-size k, room-large k end at (result k) c), refl)
 
       -- Whether there is room for it.
-      pub fits-room : most ≤ room → (q : ℕ) → x ≡ Done q → FitsIs (step (code_in s) T) true
+      fits-room : length o ≤ room → (q : ℕ) → x ≡ Some q → FitsIs (step (code_in s) T) true
       fits-room l q d =
           let k = here in
           rw (goes k) (sym (le-leb (size (plug k.frames (result k))) limit (omega (arith, whole-size k, small k q d l))))
 
-      pub fits_not : room ≤ most → x ≡ Full → FitsIs (step (code_in s) T) false
+      fits_not : room ≤ length o → x ≡ None → FitsIs (step (code_in s) T) false
       fits_not l d =
           let k = here in
-          let a = written-full (encode (result k)) o most x o' (written k) d in
+          let a = written-full (encode (result k)) o x o' (written k) d in
           let c : room < 8 * records (result k) = omega (arith, a.0, encode-length (result k)) in
           rw (goes k) (sym (lt-leb (size (plug k.frames (result k))) limit (omega (arith, whole-size k, room-large k end at (result k) c))))
+
+      pub fits-is : length o ≡ room → FitsIs (step (code_in s) T) (is_some x)
+      fits-is l = on x refl
+        where
+          on : (y : Option ℕ) → x ≡ y → FitsIs (step (code_in s) T) (is_some y)
+          on (Some q) d = fits-room (omega arith) q d
+          on None d = fits_not (omega arith) d
 
 -- ---- a sum and a branch
 
@@ -378,16 +378,16 @@ module _ {e : List ℕ} {p l r : ℕ} {T : Term} {C : Codebase} (h : Ready C e p
   pub ready-addends : kind_at e p ≡ 9 → Addends e p r
   ready-addends = poised-addends h.poised
 
-  pub fire-added : kind_at e p ≡ 9 → (e' : List ℕ) → e' ≡ summed e p r → FiredIs T (step C T) p l r (Made r) e e'
+  pub fire-added : kind_at e p ≡ 9 → (e' : List ℕ) → e' ≡ summed e p r → FiredIs T (step C T) p l r (Some r) e e'
   fire-added k e' m = rw m (landed-fired h (λ fs n q. (quiet, summed-landed q C k)))
 
   pub ready-fork : kind_at e p ≡ 10 → Fork e r
   ready-fork = poised-fork h.poised
 
-  pub fire-chosen : kind_at e p ≡ 10 → (x : ℕ) (e' : List ℕ) → ChoiceIs e r x e' → FiredIs T (step C T) p l r (Made x) e e'
+  pub fire-chosen : kind_at e p ≡ 10 → (x : ℕ) (e' : List ℕ) → ChoiceIs e r x e' → FiredIs T (step C T) p l r (Some x) e e'
   fire-chosen k x e' c = on (ℕ_discrete (record_number e r) 0)
     where
-      on : Dec (record_number e r ≡ 0) → FiredIs T (step C T) p l r (Made x) e e'
+      on : Dec (record_number e r ≡ 0) → FiredIs T (step C T) p l r (Some x) e e'
       on (yes z) = let w = c.on_zero z in rw (w.0, w.1) (landed-fired h (λ fs n q. (quiet, second-landed q C k z)))
       on (no z) = let w = c.on_other z in rw (w.0, w.1) (landed-fired h (λ fs n q. (quiet, third-landed q C k z)))
 
@@ -487,19 +487,19 @@ module _ {e fs s bodies : List ℕ} {p l r n : ℕ} {T : Term} (h : Poised e fs 
   pub poised-moves : Moves (code_in s) T
   poised-moves = poised-stepped.move
 
-module _ (C : Codebase) (T : Term) (p l r : ℕ) (x : Fired) (e e' : List ℕ) (h : FiredIs T (step C T) p l r x e e') where
-  pub fired-moved : (r' : ℕ) → x ≡ Made r' → Moved C T p l r r' e e'
+module _ (C : Codebase) (T : Term) (p l r : ℕ) (x : Option ℕ) (e e' : List ℕ) (h : FiredIs T (step C T) p l r x e e') where
+  pub fired-moved : (r' : ℕ) → x ≡ Some r' → Moved C T p l r r' e e'
   fired-moved r' q = on (step C T) refl (rw q at h)
     where
-      on : (y : Next) → step C T ≡ y → FiredIs T y p l r (Made r') e e' → Moved C T p l r r' e e'
+      on : (y : Next) → step C T ≡ y → FiredIs T y p l r (Some r') e e' → Moved C T p l r r' e e'
       on at_value k a = absurd a
       on at_stuck k a = absurd a
       on (next ev t) k a = record { move = record { event = ev; expr = t; steps = k }; small = a.0; zip = a.1 }
 
-  pub fired-large : x ≡ Over → Large C T e e'
+  pub fired-large : x ≡ None → Large C T e e'
   fired-large q = on (step C T) refl (rw q at h)
     where
-      on : (y : Next) → step C T ≡ y → FiredIs T y p l r Over e e' → Large C T e e'
+      on : (y : Next) → step C T ≡ y → FiredIs T y p l r None e e' → Large C T e e'
       on at_value k a = absurd a
       on at_stuck k a = absurd a
       on (next ev t) k a = record { move = record { event = ev; expr = t; steps = k }; large = a.0; same = a.1 }

@@ -10,14 +10,14 @@ ghost use Rattle.substitution.specs.Copied.{copied, WrittenIs};
 ghost use Rattle.zipper.specs.Zipper.{whole_in};
 ghost use Rattle.machine.specs.Program.{Formed, code_in};
 ghost use Rattle.machine.specs.Bodies.{commands_at, Positions, Found};
-ghost use Rattle.machine.specs.Fire.{body_for, Source, Ready, FiredIs, FitsIs};
+ghost use Rattle.machine.specs.Fire.{body_for, Source, Around, RoomIs, Ready, FiredIs, FitsIs};
 ghost use Rattle.machine.specs.Choice.{Addends, summed, Fork, ChoiceIs};
 ghost use Rattle.machine.specs.Outcome.{outcome_number};
 
-use substitution::Substituted;
+use words::Number;
 
 // How a run ends.
-#[derive(Clone, Copy)]
+#[derive(Clone, Copy, PartialEq, Eq, Debug)]
 pub enum Outcome {
     Value,
     Stuck,
@@ -26,42 +26,25 @@ pub enum Outcome {
     Full,
 }
 
-// What firing a redex answers: where the next expression's focus begins, or that the step would leave over 1,024 records.
-#[derive(Clone, Copy)]
-pub enum Fired {
-    Made(usize),
-    Over,
-}
-
 // The number of an outcome.
-pub fn outcome_number(outcome: Outcome) -> u32
-    ensures { result ≡ outcome_number outcome }
-{
-    match outcome {
-        Outcome::Value => 0,
-        Outcome::Stuck => 1,
-        Outcome::Spent => 2,
-        Outcome::Large => 3,
-        Outcome::Full => 4,
+impl From<Outcome> for u32 {
+    ghost from_gives = { λ outcome n. n ≡ outcome_number outcome };
+
+    fn from(outcome: Outcome) -> u32 {
+        match outcome {
+            Outcome::Value => 0,
+            Outcome::Stuck => 1,
+            Outcome::Spent => 2,
+            Outcome::Large => 3,
+            Outcome::Full => 4,
+        }
     }
-}
-
-fn wide(x: u8) -> usize
-    ensures { result ≡ x }
-{
-    x as usize
-}
-
-fn index(x: u32) -> usize
-    ensures { result ≡ x }
-{
-    x as usize
 }
 
 // How many commands the body at a record begins with: none, 6, or 6 and 7. Each has an argument of one record.
 fn commands(s: &[u8], body: usize) -> u8
     requires body_in_bounds { 8 * body < length s.now }
-    requires body_in_bounds_2 { kind_at s.now body ≡ 6 → 8 * (body + 2) < length s.now }
+    requires second_in_bounds { kind_at s.now body ≡ 6 → 8 * (body + 2) < length s.now }
     ensures { result ≡ commands_at s.now body }
 {
     if s[8 * body] != 6 {
@@ -77,15 +60,16 @@ fn commands(s: &[u8], body: usize) -> u8
 // accepted for any purpose is so for the rewritten run (proofs/Program.formed-any).
 pub fn find_bodies(script: &[u8], bodies: &mut [u32], marks: &mut [u8]) -> usize
     requires formed { Formed RewrittenRun script.now }
-    requires in_bounds { 128 ≤ length bodies.old }
-    requires in_bounds_2 { 128 ≤ length marks.old }
+    requires bodies_room { 128 ≤ length bodies.old }
+    requires marks_room { 128 ≤ length marks.old }
     ensures { Found script.now bodies.new marks.new result }
 {
     let mut at = 0;
     let mut f = 0;
+    // By whole terms and not by one: no `for` counts this.
     while script[8 * at] == 8 {
         let mark = commands(script, at + 1);
-        bodies[f] = (at + 1 + 2 * wide(mark)) as u32;
+        bodies[f] = (at + 1 + 2 * usize::from(mark)) as u32;
         marks[f] = mark;
         f += 1;
         at = zipper::end_of(script, at + 1);
@@ -93,8 +77,8 @@ pub fn find_bodies(script: &[u8], bodies: &mut [u32], marks: &mut [u8]) -> usize
     at
 }
 
-// Writes the body that a redex goes to, with the argument, e's bytes from..to, put into it: the called function's body from the script, or
-// the abstraction's from the expression.
+// Writes the body that a redex goes to to the start of out, with the argument, e's bytes from..to, put into it: the called function's body from
+// the script, or the abstraction's from the expression. Says where it ends, if out has room for it.
 fn reduce(
     e: &[u8],
     p: usize,
@@ -102,32 +86,39 @@ fn reduce(
     to: usize,
     script: &[u8],
     bodies: &[u32],
-    scratch: &mut [u8],
+    out: &mut [u8],
     st: &mut [u16],
-    room: usize,
-) -> Substituted
+) -> Option<usize>
     requires source { Source e.now script.now bodies.now p }
     requires from_le_to { from ≤ to }
     requires to_in_bounds { to ≤ length e.now }
-    requires room_in_bounds { room ≤ length scratch.old }
-    requires in_bounds { 1024 ≤ length st.old }
-    ensures { WrittenIs (copied 0 (take (to - from) (drop from e.now)) (body_for e.now script.now bodies.now p)) room scratch.old 0 result scratch.new }
+    requires stack_room { 1024 ≤ length st.old }
+    ensures { WrittenIs (copied 0 (take (to - from) (drop from e.now)) (body_for e.now script.now bodies.now p)) out.old 0 result out.new }
 {
     let kind = e[8 * (p + 1)];
     match kind {
         2 => {
-            let f = index(terms::number(e, p + 1));
-            let at = index(bodies[f]);
-            substitution::substitute(script, at, &e[from..to], scratch, st, room)
+            let f = terms::number(e, p + 1) as usize;
+            substitution::substitute(script, bodies[f] as usize, &e[from..to], out, st)
         }
-        4 => substitution::substitute(e, p + 2, &e[from..to], scratch, st, room),
+        4 => substitution::substitute(e, p + 2, &e[from..to], out, st),
         // Nothing else is applied.
-        _ => Substituted::Full,
+        _ => None,
     }
 }
 
-// Fires the application at record p, its function below l and its argument at r. The result goes to scratch first: where it would leave over
-// 1,024 records in all, nothing has changed yet.
+// Where the argument at record r ends, and the bytes that 1,024 records leave for the result of the application at record p.
+fn room(e: &[u8], p: usize, r: usize) -> (usize, usize)
+    requires { Around e.now p r }
+    ensures { RoomIs e.now p r result.0 result.1 }
+{
+    let end = zipper::end_of(e, r);
+    let room = 8 * (1024 - (p + (3072 - end)));
+    (end, room)
+}
+
+// Fires the application at record p, its function below l and its argument at r, and says where the next focus begins. The result goes to
+// scratch first: where it would leave over 1,024 records in all, nothing has changed yet.
 fn apply(
     e: &mut [u8],
     scratch: &mut [u8],
@@ -137,23 +128,19 @@ fn apply(
     p: usize,
     l: usize,
     r: usize,
-) -> Fired
+) -> Option<usize>
     requires ready { Ready (code_in script.now) e.old p l r (whole_in e.old l r) }
     requires p_value { kind_at e.old p ≡ 5 }
     requires positions { Positions script.now bodies.now }
-    requires in_bounds { 24576 ≤ length scratch.old }
-    requires in_bounds_2 { 1024 ≤ length st.old }
+    requires scratch_room { 24576 ≤ length scratch.old }
+    requires stack_room { 1024 ≤ length st.old }
     ensures { FiredIs (whole_in e.old l r) (step (code_in script.now) (whole_in e.old l r)) p l r result e.old e.new }
 {
-    let end = zipper::end_of(e, r);
-    let room = 8 * (1024 - (p + (3072 - end)));
-    match reduce(e, p, 8 * r, 8 * end, script, bodies, scratch, st, room) {
-        Substituted::Done(q) => {
-            words::copy(e, 8 * end - q, scratch, 0, q);
-            Fired::Made(end - q / 8)
-        }
-        Substituted::Full => Fired::Over,
-    }
+    let (end, room) = room(e, p, r);
+    let out = &mut scratch[..room];
+    let q = reduce(e, p, 8 * r, 8 * end, script, bodies, out, st)?;
+    words::copy(e, 8 * end - q, out, 0, q);
+    Some(end - q / 8)
 }
 
 // Adds the two constants of the sum at record p: their sum takes the place of the second, at r.
@@ -162,7 +149,7 @@ fn add(e: &mut [u8], p: usize, r: usize)
     ensures { e.new ≡ summed e.old p r }
 {
     let total = terms::number(e, p + 1) + terms::number(e, r);
-    words::put_u32(e, 8 * r + 4, total);
+    total.write(e, 8 * r + 4);
 }
 
 // Chooses a term of the branch whose first, a constant, is at record r, and says where it begins: on 0 the second, which is moved to end where
@@ -181,7 +168,8 @@ fn choose(e: &mut [u8], r: usize) -> usize
     to
 }
 
-// Fires the redex at record p: what is done of it below l, the focus at r. A sum and a branch leave fewer records than they have.
+// Fires the redex at record p: what is done of it below l, the focus at r. Says where the next focus begins, if the step leaves at most 1,024
+// records in all: a sum and a branch leave fewer than they have.
 pub fn fire(
     e: &mut [u8],
     scratch: &mut [u8],
@@ -191,11 +179,11 @@ pub fn fire(
     p: usize,
     l: usize,
     r: usize,
-) -> Fired
+) -> Option<usize>
     requires ready { Ready (code_in script.now) e.old p l r (whole_in e.old l r) }
     requires positions { Positions script.now bodies.now }
-    requires in_bounds { 24576 ≤ length scratch.old }
-    requires in_bounds_2 { 1024 ≤ length st.old }
+    requires scratch_room { 24576 ≤ length scratch.old }
+    requires stack_room { 1024 ≤ length st.old }
     ensures { FiredIs (whole_in e.old l r) (step (code_in script.now) (whole_in e.old l r)) p l r result e.old e.new }
 {
     let kind = e[8 * p];
@@ -203,11 +191,11 @@ pub fn fire(
         5 => apply(e, scratch, st, script, bodies, p, l, r),
         9 => {
             add(e, p, r);
-            Fired::Made(r)
+            Some(r)
         }
-        10 => Fired::Made(choose(e, r)),
+        10 => Some(choose(e, r)),
         // No other kind begins a redex.
-        _ => Fired::Over,
+        _ => None,
     }
 }
 
@@ -224,17 +212,23 @@ pub fn fits(
 ) -> bool
     requires ready { Ready (code_in script.now) e.now p l r (whole_in e.now l r) }
     requires positions { Positions script.now bodies.now }
-    requires in_bounds { 24576 ≤ length scratch.old }
-    requires in_bounds_2 { 1024 ≤ length st.old }
+    requires scratch_room { 24576 ≤ length scratch.old }
+    requires stack_room { 1024 ≤ length st.old }
     ensures { FitsIs (step (code_in script.now) (whole_in e.now l r)) result }
 {
     if e[8 * p] != 5 {
         return true;
     }
-    let end = zipper::end_of(e, r);
-    let most = 8 * (1024 - (p + (3072 - end)));
-    match reduce(e, p, 8 * r, 8 * end, script, bodies, scratch, st, most) {
-        Substituted::Done(_) => true,
-        Substituted::Full => false,
-    }
+    let (end, room) = room(e, p, r);
+    reduce(
+        e,
+        p,
+        8 * r,
+        8 * end,
+        script,
+        bodies,
+        &mut scratch[..room],
+        st,
+    )
+    .is_some()
 }

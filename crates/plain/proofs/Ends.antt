@@ -3,20 +3,20 @@ use mathlib.Core.List.{List, [], ◌++◌}
 use mathlib.Core.Path.{◌≡◌, ap, ◌∙◌}
 use Prim.Native.Nat.{ℕ}
 use lib.ListN.{length, take, drop}
-use borrow.Author.Tests.{eq-eqb, ne_eqb}
+use borrow.Author.Tests.{ne_eqb}
 use Rattle.words.specs.Filled.{filled, filled-exact, filled-rest}
 use Rattle.calculus.specs.Term.{Term}
 use Rattle.calculus.specs.Run.{Result, Conf, plain_run}
 use Rattle.terms.specs.Encode.{encode}
-use Rattle.refusal.specs.declared.Verdict.{Verdict}
+use Rattle.refusal.specs.declared.Refusal.{Refusal}
+use Rattle.refusal.specs.Refusal.{accepted, refused_as, refused-some}
 use Rattle.zipper.specs.Zipper.{whole_in, Stored, Flat}
 use Rattle.zipper.proofs.Whole.{flat-whole, flat-own}
 use Rattle.script.specs.File.{program_in}
 use Rattle.machine.specs.Outcome.{outcome_of}
-use Rattle.plain.specs.Answer.{plain_due, After, after, ran_after, plain_of, Rested}
+use Rattle.plain.specs.Answer.{PlainRun, plain_due, After, after, ran_after, plain_of, Rested}
 use Rattle.plain.specs.declared.Rest.{Rest}
-use Rattle.plain.specs.declared.PlainRun.{PlainRun}
-use Rattle.plain.specs.declared.PlainRun.TheVariants.{Refused, Ran}
+use Rattle.plain.specs.Answer.PlainRun.{Refused, Ran}
 
 module _ (R : Result Conf) (x : Rest) (e₁ : List ℕ) (h : Rested R x e₁) where
   -- What the store asks.
@@ -36,19 +36,20 @@ module _ (R : Result Conf) (x : Rest) (e₁ : List ℕ) (h : Rested R x e₁) wh
 
 -- ---- the entry
 
-module _ (s : List ℕ) (budget : ℕ) (e c : List ℕ) (v : Verdict) (q : v ≡ plain_due s budget (length e) (length c)) where
+module _ (s : List ℕ) (budget : ℕ) (e c : List ℕ) where
   -- A refusal.
-  pub entry-refused : (v.number ≡ 0 → ⊥) → after (Refused v) e c ≡ plain_of s budget e c
+  pub entry-refused : (r : Refusal) → refused_as r ≡ plain_due s budget (length e) (length c) → after (Refused (refused_as r)) e c ≡ plain_of s budget e c
   unfolding plain_of
-  entry-refused z = rw (← q, ne_eqb v.number 0 z)
+  entry-refused r q = rw (← q, ne_eqb (refused_as r).number 0 (refused-some r))
 
   -- A run in the first bytes of both buffers.
-  pub entry-ran : v.number ≡ 0 → (x : PlainRun) (e₁ c₁ : List ℕ) → after x e₁ c₁ ≡ ran_after (plain_run (program_in s) budget) (take 24576 e) (take 24576 c)
+  pub entry-ran : accepted ≡ plain_due s budget (length e) (length c) → (x : PlainRun) (e₁ c₁ : List ℕ)
+      → after x e₁ c₁ ≡ ran_after (plain_run (program_in s) budget) (take 24576 e) (take 24576 c)
       → after x (e₁ ++ drop 24576 e) (c₁ ++ drop 24576 c) ≡ plain_of s budget e c
   unfolding plain_of
-  entry-ran z x e₁ c₁ f =
+  entry-ran q x e₁ c₁ f =
       let R : Result Conf = plain_run (program_in s) budget in
       let w : x ≡ Ran (outcome_of R.outcome) R.last.time = ap (λ (y : After). y.answer) f in
       let a : e₁ ≡ filled 24576 (encode R.last.expr) (take 24576 e) = ap (λ (y : After). y.expression) f in
       let b : c₁ ≡ filled 24576 [] (take 24576 c) = ap (λ (y : After). y.scratch) f in
-      rw (← q, eq-eqb v.number 0 z, w, a, b, filled-rest 24576 (encode R.last.expr) e, filled-rest 24576 [] c)
+      rw (← q, w, a, b, filled-rest 24576 (encode R.last.expr) e, filled-rest 24576 [] c)

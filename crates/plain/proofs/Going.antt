@@ -30,10 +30,9 @@ use Rattle.zipper.proofs.Ends.{loaded-zip}
 use Rattle.script.specs.File.{program_in}
 use Rattle.machine.specs.Program.{code_in, Formed}
 use Rattle.machine.specs.Bodies.{Positions, Found}
+use Rattle.std.specs.Prelude.{Option, Some, None}
 use Rattle.machine.specs.Fire.{Ready, FiredIs}
 use Rattle.machine.specs.Outcome.{outcome_of}
-use Rattle.machine.specs.declared.Fired.{Fired}
-use Rattle.machine.specs.declared.Fired.TheVariants.{Made, Over}
 use Rattle.machine.proofs.Program.{formed-any, formed-closed, plain_code}
 use Rattle.machine.proofs.Contract.{Moves, poised-ready, poised-moves, fired-moved, fired-large}
 use Rattle.plain.specs.Answer.{rested, Rested}
@@ -133,7 +132,7 @@ module _ (s : List ℕ) (budget : ℕ) where
           let o : budget - k ≡ 0 = omega arith in
           rests spent y e' l' r' w (rw o (spent-run (code_in s) (whole_in e l r) k h.made (poised-moves at-redex h.closed.defined c))) (poised-flat at-redex)
 
-      module _ (z : k ≡ budget → ⊥) (f : Fired) (e₂ : List ℕ) (c : FiredIs (whole_in e' l' r') (step (code_in s) (whole_in e' l' r')) p l' r' f e' e₂) where
+      module _ (z : k ≡ budget → ⊥) (f : Option ℕ) (e₂ : List ℕ) (c : FiredIs (whole_in e' l' r') (step (code_in s) (whole_in e' l' r')) p l' r' f e' e₂) where
         same_whole : whole_in e' l' r' ≡ whole_in e l r
         same_whole = poised-whole at-redex
 
@@ -143,14 +142,14 @@ module _ (s : List ℕ) (budget : ℕ) where
         more : budget - k ≡ suc (budget - suc k)
         more = let w = lt_of k budget h.within z in omega arith
 
-        pub rests-large : f ≡ Over → (y : Rest) → y ≡ rested (outcome_of large) k l' r' → Rested (plain_run (program_in s) budget) y e₂
+        pub rests-large : f ≡ None → (y : Rest) → y ≡ rested (outcome_of large) k l' r' → Rested (plain_run (program_in s) budget) y e₂
         rests-large g y w =
             let a = fired-large (code_in s) (whole_in e l r) p l' r' f e' e₂ fired g in
             rests large y e₂ l' r' w
             (rw more (run-stop (plain_tick (code_in s)) (budget - suc k) (conf (whole_in e l r) k h.made) large (large-tick (code_in s) (whole_in e l r) k h.made a.move (omega (arith, a.large, size-most a.move.expr)))))
             (rw a.same (poised-flat at-redex))
 
-        pub goes_on : ClosedCode (code_in s) → (r₂ : ℕ) → f ≡ Made r₂ → (k₂ : ℕ) → k₂ ≡ k + 1 → Going e₂ fs' p r₂ (n' - 1) k₂
+        pub goes_on : ClosedCode (code_in s) → (r₂ : ℕ) → f ≡ Some r₂ → (k₂ : ℕ) → k₂ ≡ k + 1 → Going e₂ fs' p r₂ (n' - 1) k₂
         goes_on code r₂ g k₂ u =
             let a = fired-moved (code_in s) (whole_in e l r) p l' r' f e' e₂ fired r₂ g in
             let t : ZipOf e₂ fs' p r₂ (n' - 1) a.move.expr = a.zip fs' n' at-redex in

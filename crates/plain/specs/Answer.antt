@@ -1,19 +1,19 @@
 -- What the plain run answers, and what it leaves in its buffers. Assumes nothing.
-use Rattle.std.specs.Prelude.{Bool, cond, ◌||◌, List, [], ◌≡◌, ℕ, eqb, ltb, length}
+use Rattle.std.specs.Prelude.{Bool, cond, ◌||◌, List, [], ◌≡◌, ℕ, eqb, ltb, length, Ok, Err}
+use Rattle.std.specs.Prelude as prelude
 use Rattle.words.specs.Filled.{filled}
 use Rattle.calculus.specs.Run.{Result, Conf, plain_run}
 use Rattle.terms.specs.Encode.{encode}
-use Rattle.refusal.specs.Refusal.{due_if, refuse_if}
-use Rattle.refusal.specs.declared.Verdict.{Verdict}
+use Rattle.refusal.specs.declared.Refusal.{Refusal}
+use Rattle.refusal.specs.Refusal.{Verdict, due_if, refuse_if, refused_as}
 use Rattle.script.specs.Check.{script_verdict}
 use Rattle.script.specs.declared.Purpose.TheVariants as purposes
 use Rattle.zipper.specs.Zipper.{Flat}
 use Rattle.script.specs.File.{program_in}
 use Rattle.machine.specs.Outcome.{outcome_of, outcome_number}
 use Rattle.machine.specs.declared.Outcome.{Outcome}
+use Rattle.plain.specs.declared.Ran as made
 use Rattle.plain.specs.declared.Rest.{Rest}
-use Rattle.plain.specs.declared.PlainRun.{PlainRun}
-use Rattle.plain.specs.declared.PlainRun.TheVariants.{Refused, Ran}
 
 -- "expression and scratch 24,576 bytes each"
 abbrev pub buffer_size : ℕ
@@ -30,6 +30,19 @@ run_due budget short rest = refuse_if 22 (due_if (ltb most_budget budget)) (refu
 -- "Runs test 22, 23, the script", by the lengths of expression and scratch.
 unfoldable pub plain_due : List ℕ → ℕ → ℕ → ℕ → Verdict
 plain_due s budget e c = run_due budget (ltb e buffer_size || ltb c buffer_size) (script_verdict purposes.PlainRun s)
+
+-- What a plain run answers: a refusal's number and place, or the outcome and the steps made.
+pub data PlainRun : Type 0 where
+  Refused : Verdict → PlainRun
+  Ran : Outcome → ℕ → PlainRun
+
+-- What the program's answer says.
+abbrev pub ran : made.Ran → PlainRun
+ran r = Ran r.outcome r.steps
+
+abbrev pub answer_of : prelude.Result made.Ran Refusal → PlainRun
+answer_of (Ok r) = ran r
+answer_of (Err r) = Refused (refused_as r)
 
 -- The answer in numbers: number and place, and where nothing is refused the outcome's number and the steps. "a definition gives this paper's
 -- number and values for each of the enum's cases, and the promises use that definition"

@@ -6,8 +6,7 @@ use native.Mathlib.Omega.{arith}
 use lib.ListN.{length}
 use borrow.Author.Tests.{ne_eqb, lt-ltb, le-ltb}
 use Rattle.words.specs.Filled.{filled}
-use Rattle.refusal.specs.Refusal.{verdict, accepted, refuse-due, refuse-not}
-use Rattle.refusal.specs.declared.Verdict.{Verdict}
+use Rattle.refusal.specs.Refusal.{Verdict, verdict, accepted, refuse-due, refuse-not}
 use Rattle.guideline.specs.Read.{guideline_of}
 use Rattle.guideline.specs.Check.{file_verdict}
 use Rattle.predicates.specs.Table.{table_of}

@@ -47,7 +47,7 @@ pub first-most : (p : ℕ → Bool) (n : ℕ) → first_below p n ≤ n
 unfolding first_below
 first-most p n = omega (arith, (first-in p 0 n).1)
 
-first_passes : (p : ℕ → Bool) (i k : ℕ) → first_from p i k < i + k → p (first_from p i k) ≡ true
+pub first_passes : (p : ℕ → Bool) (i k : ℕ) → first_from p i k < i + k → p (first_from p i k) ≡ true
 unfolding first_from
 first_passes p i zero h = absurd (omega arith)
 first_passes p i (suc k) h = on (p i) refl (λ l. first_passes p (i + 1) k l) h
@@ -61,7 +61,7 @@ pub first_found : (p : ℕ → Bool) (n : ℕ) → first_below p n < n → p (fi
 unfolding first_below
 first_found p n h = first_passes p 0 n (omega arith)
 
-first-fails : (p : ℕ → Bool) (i k j : ℕ) → i ≤ j → j < first_from p i k → p j ≡ false
+pub first-fails : (p : ℕ → Bool) (i k j : ℕ) → i ≤ j → j < first_from p i k → p j ≡ false
 unfolding first_from
 first-fails p i zero j l h = absurd (omega arith)
 first-fails p i (suc k) j l h = on (p i) refl (λ m u. first-fails p (i + 1) k j m u) h
@@ -86,3 +86,12 @@ first-none p n h = on (dec_lt (first_below p n) n)
     on : Dec (first_below p n < n) → first_below p n ≡ n
     on (yes l) = absurd (true≢false (sym (first_found p n l) ∙ h (first_below p n) l))
     on (no l) = let m = first-most p n in omega arith
+
+-- A number that passes, where none before it does.
+pub first-is : (p : ℕ → Bool) (n : ℕ) {i : ℕ} → i < n → p i ≡ true → ((j : ℕ) → j < i → p j ≡ false) → first_below p n ≡ i
+first-is p n {i} l t before = on (dec_lt (first_below p n) i) (dec_lt i (first_below p n))
+  where
+    on : Dec (first_below p n < i) → Dec (i < first_below p n) → first_below p n ≡ i
+    on (yes h) d = absurd (true≢false (sym (first_found p n (omega arith)) ∙ before (first_below p n) h))
+    on (no h) (yes k) = absurd (true≢false (sym t ∙ first-before p n i k))
+    on (no h) (no k) = omega arith

@@ -31,12 +31,11 @@ use Rattle.machine.specs.Outcome.{outcome_of}
 use Rattle.machine.specs.declared.Outcome.{Outcome}
 use Rattle.machine.specs.declared.Outcome.TheVariants.{Full}
 use Rattle.plain.specs.Answer as plain
-use Rattle.plain.specs.Answer.{buffer_size, plain_of}
-use Rattle.plain.specs.declared.PlainRun.TheVariants as answers
+use Rattle.plain.specs.Answer.{PlainRun, buffer_size, plain_of}
 use Rattle.history.specs.Entries.{entries_in, entries_buffer, AllInRange, buffer-read}
 use Rattle.booking.specs.declared.Counts.{Counts}
 use Rattle.rewritten.specs.Answer.{After, counts_of, too_short, rewritten_of}
-use Rattle.rewritten.specs.declared.RewrittenRun.TheVariants.{Ran}
+use Rattle.rewritten.specs.Answer.RewrittenRun.{Ran}
 use Rattle.rehearsal.specs.Claim.{Claim, Demand3}
 use Rattle.rehearsal.proofs.Ranges.{calls-ranged}
 use Rattle.rehearsal.proofs.Runs.{ran-allowed, program-fits, program-bare, guideline-safe, plain-ran, written-ran}
@@ -124,8 +123,8 @@ module _ {s g : List ℕ} (p : Passed s g) (n : ℕ) (most : n ≤ 1000000) wher
     shorter = plain-ran p k e c (omega (arith, steps-most)) i j
 
     -- … makes k steps …
-    shorter-steps : (plain_of s k e c).answer ≡ answers.Ran (outcome_of (plain_run S k).outcome) k
-    shorter-steps = ap (λ (a : plain.After). a.answer) shorter ∙ ap (answers.Ran (outcome_of (plain_run S k).outcome)) faithful.count
+    shorter-steps : (plain_of s k e c).answer ≡ PlainRun.Ran (outcome_of (plain_run S k).outcome) k
+    shorter-steps = ap (λ (a : plain.After). a.answer) shorter ∙ ap (PlainRun.Ran (outcome_of (plain_run S k).outcome)) faithful.count
 
     -- … and leaves the same expression.
     shorter-expression : (b : List ℕ) → take buffer_size (plain_of s k e c).expression ≡ take buffer_size (filled buffer_size (encode R.last.expr) b)
@@ -135,8 +134,8 @@ module _ {s g : List ℕ} (p : Passed s g) (n : ℕ) (most : n ≤ 1000000) wher
         ∙ filled-same buffer_size (encode R.last.expr) e b
 
     -- With budget n it has the same outcome and count, unless the history is full.
-    whole_same : R.outcome ≢ full → (plain_of s n e c).answer ≡ answers.Ran (outcome_of R.outcome) k
-    whole_same h = ap (λ (a : plain.After). a.answer) (plain-ran p n e c most i j) ∙ ap₂ answers.Ran (ap outcome_of (faithful.same_outcome h)) (faithful.same_count h)
+    whole_same : R.outcome ≢ full → (plain_of s n e c).answer ≡ PlainRun.Ran (outcome_of R.outcome) k
+    whole_same h = ap (λ (a : plain.After). a.answer) (plain-ran p n e c most i j) ∙ ap₂ PlainRun.Ran (ap outcome_of (faithful.same_outcome h)) (faithful.same_count h)
 
   -- The claim holds, whatever its two buffers held before.
   claim : (b l : List ℕ) → Claim s g n (outcome_of R.outcome) (counts_of R.last.state) (filled buffer_size (encode R.last.expr) b) (entries_buffer R.last.state.log l)

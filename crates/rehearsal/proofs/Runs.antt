@@ -12,8 +12,7 @@ use Rattle.calculus.specs.Guideline.{Guideline, Safe}
 use Rattle.calculus.specs.Rewriting.{rewrite}
 use Rattle.calculus.specs.Run.{Result, plain_run}
 use Rattle.calculus.specs.Log as L
-use Rattle.refusal.specs.Refusal.{accepted, due_if, and_then, refuse_if, refuse-zero, not-due}
-use Rattle.refusal.specs.declared.Verdict.{Verdict}
+use Rattle.refusal.specs.Refusal.{Verdict, accepted, due_if, and_then, refuse_if, refuse-zero, not-due}
 use Rattle.script.specs.File.{file_of, program_in}
 use Rattle.script.specs.Check.{script_verdict, definition_count}
 use Rattle.script.specs.declared.Purpose.TheVariants.{Rewriting, PlainRun, RewrittenRun}
@@ -31,9 +30,8 @@ use Rattle.plain.specs.Answer as plain
 use Rattle.plain.specs.Answer.{buffer_size, plain_of}
 use Rattle.plain.proofs.Refusals.{due-script}
 use Rattle.booking.specs.declared.Counts.{Counts}
-use Rattle.rewritten.specs.Answer.{after, ran_after, answered, too_short, rewritten_due, rewritten_of}
-use Rattle.rewritten.specs.declared.RewrittenRun.{RewrittenRun as Answer}
-use Rattle.rewritten.specs.declared.RewrittenRun.TheVariants.{Refused, Ran}
+use Rattle.rewritten.specs.Answer.{RewrittenRun as Answer, after, ran_after, answered, too_short, rewritten_due, rewritten_of}
+use Rattle.rewritten.specs.Answer.RewrittenRun.{Refused, Ran}
 
 -- ---- a run that was made was allowed
 

@@ -9,17 +9,17 @@ use lib.ListN.{length, take}
 use borrow.Author.Tests.{eq-eqb, ne_eqb, eqb-true, lt-ltb, le-ltb, ltb-false}
 use Rattle.words.specs.Bytes.{AllBytes}
 use Rattle.words.specs.Put.{put}
-use Rattle.refusal.specs.Refusal.{verdict, due_if, refuse_if, refuse-zero, not-due}
-use Rattle.refusal.specs.declared.Verdict.{Verdict}
+use Rattle.refusal.specs.declared.Refusal.{Refusal}
+use Rattle.refusal.specs.Refusal.{Verdict, verdict, accepted, due_if, refused_as, refused-some, refuse-zero, not-due}
 use Rattle.rewriting.specs.Answer as rewrites
-use Rattle.rewriting.specs.Answer.{refused_by, done_with, written_file, rewriting_verdict, rewriting}
-use Rattle.rewriting.specs.declared.Rewritten.{Rewritten}
+use Rattle.rewriting.specs.Answer.{Rewritten, refused_by, done_with, written_file, rewriting_verdict, rewriting}
 use Rattle.rewriting.proofs.Calling.{answer-zero, call-passed, call-written}
 use Rattle.rewritten.specs.Answer as runs
-use Rattle.rewritten.specs.Answer.{too_short, rewritten_of}
-use Rattle.rewritten.specs.declared.RewrittenRun.{RewrittenRun}
-use Rattle.rewritten.specs.declared.RewrittenRun.TheVariants.{Refused, Ran}
-use Rattle.rehearsal.specs.Rehearsal.{rehearsal_due, refused_with, After, after, answered, rehearsal_of, Claimed}
+use Rattle.rewritten.specs.Answer.{RewrittenRun, too_short, rewritten_of}
+use Rattle.rewritten.specs.Answer.RewrittenRun.{Refused, Ran}
+use Rattle.plain.specs.Answer.{run_due}
+use Rattle.plain.proofs.Refusals.{call-refused, call-rest}
+use Rattle.rehearsal.specs.Rehearsal.{rehearsal_due, After, after, answered, rehearsal_of, Claimed}
 use Rattle.rehearsal.specs.Claim.{Demand3}
 use Rattle.rehearsal.proofs.Runs.{not-both}
 use Rattle.rehearsal.proofs.Demand3.{demand-3-file}
@@ -49,34 +49,29 @@ module _ (s g : List ℕ) (n : ℕ) (o e c h l t : List ℕ) where
   Done x o' e' c' h' l' t' = (after o' (runs.after x e' c' h' l' t') ≡ rehearsal_of s g n o e c h l t) × Claimed s g n x e' l'
 
   -- A refusal.
-  refused : (v : Verdict) → v ≡ rehearsal_due s g n short (length o) → (v.number ≡ 0 → ⊥) → {x : RewrittenRun} → x ≡ Refused v → Done x o e c h l t
+  refused : (r : Refusal) → refused_as r ≡ rehearsal_due s g n short (length o) → Done (Refused (refused_as r)) o e c h l t
   unfolding answered
-  refused v q z w = rw w (rw (← q, ne_eqb v.number 0 z), tt)
+  refused r q = (rw (← q, ne_eqb (refused_as r).number 0 (refused-some r)), tt)
 
-  -- The budget is too large.
-  pub refused-budget : 1000000 < n → {x : RewrittenRun} → x ≡ refused_with 22 0 → Done x o e c h l t
-  unfolding rehearsal_due refuse_if
-  refused-budget i = refused (verdict 22 0) (rw (lt-ltb 1000000 n i)) (λ z. omega arith)
+  module _ {b : Bool} (is : b ≡ short) where
+    -- The budget is too large, or a buffer is too short.
+    pub refused-call : (r : Refusal) → refused_as r ≡ run_due n b accepted → Done (Refused (refused_as r)) o e c h l t
+    unfolding rehearsal_due
+    refused-call r q = refused r (rw (← is) (call-refused n b _ r q))
 
-  module _ (i : n ≤ 1000000) where
-    -- A buffer is too short.
-    pub refused-short : short ≡ true → {x : RewrittenRun} → x ≡ refused_with 23 0 → Done x o e c h l t
-    unfolding rehearsal_due refuse_if
-    refused-short j = refused (verdict 23 0) (rw (le-ltb 1000000 n i, j)) (λ z. omega arith)
-
-    module _ (j : short ≡ false) {o' : List ℕ} {r : Rewritten} (a : rewrites.after o' r ≡ rewriting s g o) where
-      -- Then rewriting decides.
+    module _ (passed : accepted ≡ run_due n b accepted) where
+      -- Else rewriting decides.
       rewriting-due : rewriting_verdict s g (length o) ≡ rehearsal_due s g n short (length o)
-      unfolding rehearsal_due refuse_if
-      rewriting-due = rw (le-ltb 1000000 n i, j)
+      unfolding rehearsal_due
+      rewriting-due = rw (← is) (call-rest n b passed _)
 
       -- It refuses, …
-      pub refused-rewriting : (r.number ≡ 0 → ⊥) → {x : RewrittenRun} → x ≡ refused_with r.number r.place → Done x o' e c h l t
-      refused-rewriting z w =
-          let q = answer-refused (rewriting_verdict s g (length o)) (written_file s g) o o' r a z in
-          rw q.0 (refused (verdict r.number r.place) (q.1 ∙ rewriting-due) z w)
+      pub refused-rewriting : {o' : List ℕ} (r : Refusal) → rewrites.after o' (refused_by (refused_as r)) ≡ rewriting s g o → Done (Refused (refused_as r)) o' e c h l t
+      refused-rewriting {o'} r a =
+          let q = answer-refused (rewriting_verdict s g (length o)) (written_file s g) o o' (refused_by (refused_as r)) a (refused-some r) in
+          rw q.0 (refused r (q.1 ∙ rewriting-due))
 
-      module _ (z : r.number ≡ 0) (script : AllBytes s) (guideline : AllBytes g) where
+      module _ {o' : List ℕ} {r : Rewritten} (a : rewrites.after o' r ≡ rewriting s g o) (z : r.number ≡ 0) (script : AllBytes s) (guideline : AllBytes g) where
         -- … or what was written is run, …
         ran-is : (y : runs.After) → y ≡ rewritten_of (written_file s g) g n e c h l t → after o' y ≡ rehearsal_of s g n o e c h l t
         unfolding answered

@@ -7,23 +7,22 @@ use Rattle.guideline.specs.Read.{guideline_of}
 use Rattle.script.specs.File.{program_in}
 use Rattle.machine.specs.declared.Outcome.{Outcome}
 use Rattle.machine.specs.declared.Outcome.TheVariants.{Full}
-use Rattle.plain.specs.Answer.{buffer_size, most_budget, plain_of}
-use Rattle.plain.specs.declared.PlainRun.TheVariants as plain
+use Rattle.plain.specs.Answer.{PlainRun, buffer_size, most_budget, plain_of}
 use Rattle.history.specs.Entries.{entries_in}
 use Rattle.booking.specs.declared.Counts.{Counts}
 use Rattle.rewritten.specs.Answer.{too_short, rewritten_of}
-use Rattle.rewritten.specs.declared.RewrittenRun.TheVariants.{Ran}
+use Rattle.rewritten.specs.Answer.RewrittenRun.{Ran}
 
 -- Script s, guideline g, budget n: the rewritten run answered outcome x and counts k, and left its last expression in the buffer b and its
 -- log in the buffer l. Plain runs are those of s, in any two buffers e and c that are long enough: a refused call makes no run.
 pub record Claim (s g : List ℕ) (n : ℕ) (x : Outcome) (k : Counts) (b l : List ℕ) : Type 0 where
   -- "Then the plain run of S with budget k makes exactly k steps …
-  pub steps : (e c : List ℕ) → buffer_size ≤ length e → buffer_size ≤ length c → (o : Outcome) × ((plain_of s k.steps e c).answer ≡ plain.Ran o k.steps)
+  pub steps : (e c : List ℕ) → buffer_size ≤ length e → buffer_size ≤ length c → (o : Outcome) × ((plain_of s k.steps e c).answer ≡ PlainRun.Ran o k.steps)
   -- … and ends on the same expression, record for record."
   pub expression : (e c : List ℕ) → buffer_size ≤ length e → buffer_size ≤ length c → take buffer_size (plain_of s k.steps e c).expression ≡ take buffer_size b
   -- "With budget n the plain run has the same outcome and the same count as the rewritten one, unless the rewritten one reports a full
   -- history"
-  pub same : x ≢ Full → (e c : List ℕ) → buffer_size ≤ length e → buffer_size ≤ length c → (plain_of s n e c).answer ≡ plain.Ran x k.steps
+  pub same : x ≢ Full → (e c : List ℕ) → buffer_size ≤ length e → buffer_size ≤ length c → (plain_of s n e c).answer ≡ PlainRun.Ran x k.steps
   -- "A full history, reported at k steps, means that 1,024 of steps 0 to k − 1 of the plain run with budget n are noted calls and step k is
   -- one more."
   pub full : x ≡ Full → FullMeans (guideline_of g) (program_in s) n k.steps

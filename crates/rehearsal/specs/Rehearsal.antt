@@ -1,22 +1,17 @@
 -- A rehearsal: rewriting, then the rewritten run of the file that was written, in one call. Assumes nothing.
 use Rattle.std.specs.Prelude.{Bool, cond, List, ℕ, eqb, length}
 use Rattle.words.specs.Put.{put}
-use Rattle.refusal.specs.Refusal.{verdict}
-use Rattle.refusal.specs.declared.Verdict.{Verdict}
+use Rattle.refusal.specs.Refusal.{Verdict}
 use Rattle.rewriting.specs.Answer.{written_file, rewriting_verdict}
 use Rattle.plain.specs.Answer.{run_due}
 use Rattle.rewritten.specs.Answer as runs
-use Rattle.rewritten.specs.Answer.{too_short, rewritten_of}
-use Rattle.rewritten.specs.declared.RewrittenRun.{RewrittenRun}
-use Rattle.rewritten.specs.declared.RewrittenRun.TheVariants.{Refused, Ran}
+use Rattle.rewritten.specs.Answer.{RewrittenRun, too_short, rewritten_of}
+use Rattle.rewritten.specs.Answer.RewrittenRun.{Refused, Ran}
 use Rattle.rehearsal.specs.Claim.{Claim}
 
 -- "Runs test 22, 23", then rewriting tests script, guideline and 21, for an output of n bytes. Nothing is written before all are tested.
 unfoldable pub rehearsal_due : List ℕ → List ℕ → ℕ → Bool → ℕ → Verdict
 rehearsal_due s g budget short n = run_due budget short (rewriting_verdict s g n)
-
-abbrev pub refused_with : ℕ → ℕ → RewrittenRun
-refused_with n p = Refused (verdict n p)
 
 -- The contents of the output, and what the run answers and leaves.
 pub record After : Type 0 where

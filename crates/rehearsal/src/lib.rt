@@ -3,16 +3,10 @@
 
 ghost use Rattle.std.specs.Prelude.{◌≡◌};
 ghost use Rattle.rewritten.specs.Answer as runs;
-ghost use Rattle.rehearsal.specs.Rehearsal.{after, refused_with, rehearsal_of, Claimed};
+ghost use Rattle.rehearsal.specs.Rehearsal.{after, rehearsal_of, Claimed};
 
-use refusal::Verdict;
-use rewritten::RewrittenRun;
-
-fn refusing(number: u32, place: u32) -> RewrittenRun
-    ensures { result ≡ refused_with number place }
-{
-    RewrittenRun::Refused(Verdict { number, place })
-}
+use refusal::Refusal;
+use rewritten::Ran;
 
 // Rewrites the script into `out` and runs it, with all refusals tested before anything is written: 22, 23, then those of rewriting.
 pub fn rehearse(
@@ -25,27 +19,20 @@ pub fn rehearse(
     history: &mut [u8],
     log: &mut [u8],
     table: &mut [u8],
-) -> RewrittenRun
-    ensures table_after { after out.new (runs.after result expression.new scratch.new history.new log.new table.new) ≡ rehearsal_of script.now guideline.now budget out.old expression.old scratch.old history.old log.old table.old }
-    ensures claimed { Claimed script.now guideline.now budget result expression.new log.new }
+) -> Result<Ran, Refusal>
+    ensures table_after { after out.new (runs.after (runs.answer_of result) expression.new scratch.new history.new log.new table.new) ≡ rehearsal_of script.now guideline.now budget out.old expression.old scratch.old history.old log.old table.old }
+    ensures claimed { Claimed script.now guideline.now budget (runs.answer_of result) expression.new log.new }
 {
-    if 1000000 < budget {
-        return refusing(22, 0);
-    }
-    if rewritten::too_short(
+    let short = rewritten::too_short(
         expression.len(),
         scratch.len(),
         history.len(),
         log.len(),
         table.len(),
-    ) {
-        return refusing(23, 0);
-    }
-    let written = rewriting::rewrite(script, guideline, out);
-    if written.number != 0 {
-        return refusing(written.number, written.place);
-    }
-    let end = 8 * (written.records as usize);
+    );
+    plain::check_call(budget, short)?;
+    let records = rewriting::rewrite(script, guideline, out)?;
+    let end = 8 * (records as usize);
     rewritten::rewritten(
         &out[..end],
         guideline,

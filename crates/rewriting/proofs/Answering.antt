@@ -9,14 +9,13 @@ use lib.ListN.{length}
 use borrow.Author.Tests.{ne_eqb, lt-ltb, le-ltb}
 use Rattle.words.specs.Put.{put}
 use Rattle.terms.specs.Record.{count}
-use Rattle.refusal.specs.Refusal.{verdict, accepted, refuse_if, due_if, refuse-due, and_then, then-refused, then-passed}
-use Rattle.refusal.specs.declared.Verdict.{Verdict}
+use Rattle.refusal.specs.declared.Refusal.{Refusal}
+use Rattle.refusal.specs.Refusal.{Verdict, verdict, accepted, refuse_if, due_if, refuse-due, and_then, then-refused, then-passed, refused_as, refused-some}
 use Rattle.script.specs.File.{file_of}
 use Rattle.script.specs.Check.{definition_count, script_verdict}
 use Rattle.script.specs.declared.Purpose.TheVariants.{Rewriting}
 use Rattle.guideline.specs.Check.{guideline_verdict}
 use Rattle.rewriting.specs.Answer.{written_file, rewriting_verdict, after, refused_by, answered, rewriting}
-use Rattle.rewriting.specs.declared.Rewritten.{Rewritten}
 use Rattle.rewriting.proofs.Passing.{ScriptPassed, Passed}
 
 -- Where the first verdict accepts, the second decides.
@@ -32,21 +31,23 @@ answer-refused v file o n = rw (ne_eqb v.number 0 n)
 
 module _ (s g o : List ℕ) where
   -- A refusal of the whole call.
-  refused-by : {r : Rewritten} (v : Verdict) → rewriting_verdict s g (length o) ≡ v → (v.number ≡ 0 → ⊥) → r ≡ refused_by v → after o r ≡ rewriting s g o
-  refused-by v e n q = ap (after o) q ∙ sym (ap (λ (x : Verdict). answered x (written_file s g) o) e ∙ answer-refused v (written_file s g) o n)
+  refused-by : (v : Verdict) → rewriting_verdict s g (length o) ≡ v → (v.number ≡ 0 → ⊥) → after o (refused_by v) ≡ rewriting s g o
+  refused-by v e n = sym (ap (λ (x : Verdict). answered x (written_file s g) o) e ∙ answer-refused v (written_file s g) o n)
 
   -- The script is refused.
-  pub script-refused : {r : Rewritten} {v : Verdict} → v ≡ script_verdict Rewriting s → (v.number ≡ 0 → ⊥) → r ≡ refused_by v → after o r ≡ rewriting s g o
+  pub script-refused : (r : Refusal) → refused_as r ≡ script_verdict Rewriting s → after o (refused_by (refused_as r)) ≡ rewriting s g o
   unfolding rewriting_verdict
-  script-refused {v = v} e n q = refused-by v (rw (← e) (sym (then-refused v _ refl n))) n q
+  script-refused r e =
+      let n : (refused_as r).number ≡ 0 → ⊥ = refused-some r in
+      refused-by (refused_as r) (rw (← e) (sym (then-refused (refused_as r) _ refl n))) n
 
   -- The guideline is refused.
-  pub guideline-refused : {r : Rewritten} {d : ℕ} {w : Verdict} → ScriptPassed s → d ≡ definition_count (file_of s) → w ≡ guideline_verdict d g → (w.number ≡ 0 → ⊥) → r ≡ refused_by w
-      → after o r ≡ rewriting s g o
+  pub guideline-refused : (r : Refusal) {d : ℕ} → ScriptPassed s → d ≡ definition_count (file_of s) → refused_as r ≡ guideline_verdict d g → after o (refused_by (refused_as r)) ≡ rewriting s g o
   unfolding rewriting_verdict
-  guideline-refused {w = w} p k e n q =
-      let e' : w ≡ guideline_verdict (definition_count (file_of s)) g = rw k at e in
-      refused-by w (next-passed (script_verdict Rewriting s) _ p.verdict ∙ rw (← e') (sym (then-refused w _ refl n))) n q
+  guideline-refused r p k e =
+      let n : (refused_as r).number ≡ 0 → ⊥ = refused-some r in
+      let e' : refused_as r ≡ guideline_verdict (definition_count (file_of s)) g = rw k at e in
+      refused-by (refused_as r) (next-passed (script_verdict Rewriting s) _ p.verdict ∙ rw (← e') (sym (then-refused (refused_as r) _ refl n))) n
 
   module _ (p : Passed s g) where
     -- Where both are accepted, number 21 is tested.
@@ -55,10 +56,10 @@ module _ (s g o : List ℕ) where
     third = next-passed (script_verdict Rewriting s) _ p.script.verdict ∙ next-passed (guideline_verdict (definition_count (file_of s)) g) _ p.verdict
 
     -- The output is too short.
-    pub output-short : {r : Rewritten} {n : ℕ} → length (written_file s g) ≡ n → length o < n → r ≡ refused_by (verdict 21 0) → after o r ≡ rewriting s g o
-    output-short e l q =
+    pub output-short : {n : ℕ} → length (written_file s g) ≡ n → length o < n → after o (refused_by (verdict 21 0)) ≡ rewriting s g o
+    output-short e l =
         let t : ltb (length o) (length (written_file s g)) ≡ true = lt-ltb (length o) (length (written_file s g)) (omega arith) in
-        refused-by (verdict 21 0) (third ∙ refuse-due 21 accepted (rw t)) (λ z. omega arith) q
+        refused-by (verdict 21 0) (third ∙ refuse-due 21 accepted (rw t)) (λ z. omega arith)
 
     -- All is written.
     pub all-written : {n : ℕ} {l o' : List ℕ} → length (written_file s g) ≡ 8 * n → 8 * n ≤ length o → o' ≡ put o 0 l → l ≡ written_file s g

@@ -15,8 +15,7 @@ use Rattle.calculus.specs.Term.{Program, program_records}
 use Rattle.calculus.specs.Rewriting.{logevents, triggers, logged, rewrite}
 use Rattle.calculus.proofs.Growth.{rewrite-grows}
 use Rattle.terms.specs.Record.{count}
-use Rattle.refusal.specs.Refusal.{accepted, refuse_if, due_if, then-zero}
-use Rattle.refusal.specs.declared.Verdict.{Verdict}
+use Rattle.refusal.specs.Refusal.{Verdict, accepted, refuse_if, due_if, then-zero}
 use Rattle.script.specs.File.{file_of}
 use Rattle.script.specs.Check.{definition_count, script_verdict}
 use Rattle.script.specs.declared.Purpose.TheVariants.{Rewriting}
@@ -24,8 +23,7 @@ use Rattle.script.proofs.Accepted.{script-zero, program-length}
 use Rattle.guideline.specs.Read.{guideline_of}
 use Rattle.guideline.specs.Check.{guideline_verdict}
 use Rattle.guideline.proofs.Due.{guideline-zero}
-use Rattle.rewriting.specs.Answer.{written_file, rewriting_verdict, After, after, refused_by, done_with, answered, rewriting}
-use Rattle.rewriting.specs.declared.Rewritten.{Rewritten}
+use Rattle.rewriting.specs.Answer.{Rewritten, written_file, rewriting_verdict, After, after, refused_by, done_with, answered, rewriting}
 use Rattle.rewriting.proofs.Passing.{Passed, script-program, script-bytes as program-bytes, functions-below, written_is}
 
 -- The output is long enough.

@@ -1,8 +1,8 @@
 -- The bytes of commands. Assumes nothing.
 use mathlib.Core.Bool.{Bool, true, false}
-use mathlib.Core.List.{List, [], ◌∷◌, ◌++◌, append_assoc, append-nil}
+use mathlib.Core.List.{List, [], ◌∷◌, ◌++◌, append_assoc}
 use mathlib.Core.Path.{◌≡◌, refl, sym, ap, ◌∙◌}
-use Prim.Native.Nat.{ℕ, suc, ◌+◌, ◌*◌, ◌/◌, ◌%◌, ◌<◌, ◌≤◌}
+use Prim.Native.Nat.{ℕ, ◌+◌, ◌/◌, ◌%◌, ◌<◌, ◌≤◌}
 use native.Mathlib.Omega.{arith}
 use lib.Dec.{eqb}
 use lib.ListN.{length, length-append}
@@ -13,26 +13,6 @@ use Rattle.terms.specs.Record.{record8}
 use Rattle.terms.proofs.Encode.{record-length}
 use Rattle.rewriting.specs.Grown.{command, commands}
 
--- The lowest byte of a number, and the others.
-byte-on : (w k y : ℕ) → k < 256 → bytes (suc w) (k + 256 * y) ≡ k ∷ bytes w y
-unfolding bytes
-byte-on w k y h =
-    let m : (k + 256 * y) % 256 ≡ k = omega arith in
-    let d : (k + 256 * y) / 256 ≡ y = omega arith in
-    rw (m, d)
-
--- A record as one number of eight bytes.
-record-word : (k f : ℕ) → k < 256 → bytes 8 (k + f * 4294967296) ≡ record8 k f []
-record-word k f h =
-    let e : k + f * 4294967296 ≡ k + 256 * (0 + 256 * (0 + 256 * (0 + 256 * f))) = omega arith in
-    ap (bytes 8) e
-    ∙ byte-on 7 k (0 + 256 * (0 + 256 * (0 + 256 * f))) h
-    ∙ ap (λ (l : List ℕ). k ∷ l)
-    (byte-on 6 0 (0 + 256 * (0 + 256 * f)) (omega arith)
-    ∙ ap (λ (l : List ℕ). 0 ∷ l)
-    (byte-on 5 0 (0 + 256 * f) (omega arith)
-    ∙ ap (λ (l : List ℕ). 0 ∷ l) (byte-on 4 0 f (omega arith) ∙ ap (λ (l : List ℕ). 0 ∷ l) (sym (append-nil (bytes 4 f))))))
-
 -- A record and the bytes after it.
 pub record-front : (k n : ℕ) (rest : List ℕ) → record8 k n [] ++ rest ≡ record8 k n rest
 record-front k n rest = ap (λ (l : List ℕ). k ∷ 0 ∷ 0 ∷ 0 ∷ l) (append_assoc (bytes 4 n) [] rest)
@@ -42,16 +22,19 @@ pub command-length : (k f : ℕ) → length (command k f) ≡ 16
 unfolding command
 command-length k f = omega (arith, record-length k f (record8 1 0 []), record-length 1 0 [])
 
--- Two numbers of eight bytes are a command.
-pub command-put : (o : List ℕ) {o' o'' : List ℕ} (at k f : ℕ) → k < 256 → at + 16 ≤ length o → o' ≡ put o at (bytes 8 (k + f * 4294967296)) → o'' ≡ put o' (at + 8) (bytes 8 1)
-    → o'' ≡ put o at (command k f)
+whole : (k f : ℕ) → k < 256 → (bytes 4 k ++ bytes 4 f) ++ bytes 8 1 ≡ record8 k f (record8 1 0 [])
+unfolding bytes
+whole k f h = let d : k / 256 ≡ 0 = omega arith in let m : k % 256 ≡ k = omega arith in rw (m, d)
+
+-- Three numbers are a command: the kind, the function, and variable 0 as one number of eight bytes.
+pub command-put : (o : List ℕ) {o₁ o₂ o₃ : List ℕ} (at k f : ℕ) {x : ℕ} → k < 256 → at + 16 ≤ length o → x ≡ k
+    → o₁ ≡ put o at (bytes 4 x) → o₂ ≡ put o₁ (at + 4) (bytes 4 f) → o₃ ≡ put o₂ (at + 8) (bytes 8 1) → o₃ ≡ put o at (command k f)
 unfolding command
-command-put o {o'} {o''} at k f h l e e' =
-    let w : List ℕ = bytes 8 (k + f * 4294967296) in
-    let n : length w ≡ 8 = bytes-length 8 (k + f * 4294967296) in
-    let q : at + 8 ≡ at + length w = omega arith in
-    let r : w ++ bytes 8 1 ≡ record8 k f (record8 1 0 []) = rw (record-word k f h, record-word 1 0 (omega arith)) (record-front k f (record8 1 0 [])) in
-    e' ∙ rw (e, q) (put-put o at w (omega arith) (bytes 8 1) ∙ ap (put o at) r)
+command-put o {o₁} {o₂} {o₃} at k f h l x e₁ e₂ e₃ =
+    let n₁ : at + 4 ≡ at + length (bytes 4 k) = omega (arith, bytes-length 4 k) in
+    let n₂ : at + 8 ≡ at + length (bytes 4 k ++ bytes 4 f) = omega (arith, length-append (bytes 4 k) (bytes 4 f), bytes-length 4 k, bytes-length 4 f) in
+    let p₂ : o₂ ≡ put o at (bytes 4 k ++ bytes 4 f) = e₂ ∙ rw (e₁, x, n₁) (put-put o at (bytes 4 k) (omega (arith, bytes-length 4 k)) (bytes 4 f)) in
+    e₃ ∙ rw (p₂, n₂) (put-put o at (bytes 4 k ++ bytes 4 f) (omega arith) (bytes 8 1) ∙ ap (put o at) (whole k f h))
 
 -- ---- the commands of a mark
 

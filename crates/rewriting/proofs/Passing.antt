@@ -10,8 +10,7 @@ use Rattle.calculus.specs.Term.{Term, Program}
 use Rattle.calculus.specs.Rewriting.{rewrite_from, rewrite}
 use Rattle.terms.specs.Record.{count}
 use Rattle.terms.specs.Encode.{encode_program}
-use Rattle.refusal.specs.Refusal.{accepted}
-use Rattle.refusal.specs.declared.Verdict.{Verdict}
+use Rattle.refusal.specs.Refusal.{Verdict, accepted}
 use Rattle.script.specs.File.{Definition, File, file_of, program_of, file_program, program_in}
 use Rattle.script.specs.Check.{definition_count, script_verdict}
 use Rattle.script.specs.WellFormed.{WellFormed}

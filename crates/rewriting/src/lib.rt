@@ -5,33 +5,17 @@ ghost use Rattle.std.specs.Prelude.{◌≡◌, ◌+◌, ◌*◌, ◌<◌, ◌≤
 ghost use Rattle.words.specs.Put.{put};
 ghost use Rattle.terms.specs.Record.{count};
 ghost use Rattle.guideline.specs.Record.{count as record_count};
-ghost use Rattle.rewriting.specs.Answer.{refused_by, after, rewriting};
+ghost use Rattle.rewriting.specs.Answer.{after, answer_of, rewriting};
 ghost use Rattle.rewriting.specs.Marks.{later, Marks, gains};
 ghost use Rattle.rewriting.specs.Grown.{gain_at, command, commands, grown};
 
-use refusal::Verdict;
+use refusal::{Reason, Refusal};
 use script::Purpose;
-
-// A refusal's number and place; or 0, 0 and the count of the records that were written.
-#[derive(Clone, Copy)]
-pub struct Rewritten {
-    pub number: u32,
-    pub place: u32,
-    pub records: u32,
-}
-
-// The answer of a refusal: no record was written.
-fn refused(v: Verdict) -> Rewritten
-    ensures { result ≡ refused_by v }
-{
-    Rewritten {
-        number: v.number,
-        place: v.place,
-        records: 0,
-    }
-}
+use words::Number;
 
 // ---- what each function gains
+
+// A mark is the very count of records, 0, 2 or 4, that is added up below: an enum would need a method that gives the same number back.
 
 // A function's mark after a guideline record of that kind that names it: 4 records gained by a logged function, 2 by any other trigger, as
 // which the function of kind 9 counts.
@@ -49,23 +33,14 @@ fn marked(mark: u8, kind: u8) -> u8
 fn marks_of(g: &[u8]) -> [u8; 128]
     ensures { Marks g.now (record_count g.now) result }
 {
-    let n = guideline::record::count(g);
     let mut marks = [0; 128];
-    let mut i = 0;
-    while i < n {
+    for i in 0..guideline::record::count(g) {
         let f = guideline::record::first_number(g, i) as usize;
         if f < 128 {
             marks[f] = marked(marks[f], guideline::record::kind(g, i));
         }
-        i += 1;
     }
     marks
-}
-
-fn wide(x: u8) -> usize
-    ensures { (result ≡ x) × (result < 256) }
-{
-    x as usize
 }
 
 // The records that the first n functions gain.
@@ -74,10 +49,8 @@ fn gained(marks: &[u8; 128], n: usize) -> usize
     ensures { (result ≡ gains marks.now 0 n) × (result ≤ 255 * n) }
 {
     let mut sum = 0;
-    let mut f = 0;
-    while f < n {
-        sum += wide(marks[f]);
-        f += 1;
+    for f in 0..n {
+        sum += usize::from(marks[f]);
     }
     sum
 }
@@ -97,13 +70,13 @@ fn gain_at(marks: &[u8; 128], s: &[u8], i: usize) -> u8
 // ---- writing
 
 // Writes a command of that kind for a function, on variable 0.
-fn put_command(out: &mut [u8], at: usize, kind: u64, f: u32)
-    requires kind_bound { kind < 256 }
-    requires at_in_bounds { at + 16 ≤ length out.old }
+fn put_command(out: &mut [u8], at: usize, kind: u8, f: u32)
+    requires { at + 16 ≤ length out.old }
     ensures { out.new ≡ put out.old at (command kind f) }
 {
-    words::put_u64(out, at, kind + f as u64 * 4294967296);
-    words::put_u64(out, at + 8, 1);
+    u32::from(kind).write(out, at);
+    f.write(out, at + 4);
+    1u64.write(out, at + 8);
 }
 
 // Writes the commands that a function with that mark gains; the place after them.
@@ -126,11 +99,9 @@ fn write(s: &[u8], marks: &[u8; 128], out: &mut [u8])
     requires s_in_bounds { length (grown marks.now s.now 0 (count s.now)) ≤ length out.old }
     ensures { out.new ≡ put out.old 0 (grown marks.now s.now 0 (count s.now)) }
 {
-    let n = s.len() / 8;
     let mut from = 0;
     let mut at = 0;
-    let mut i = 0;
-    while i < n {
+    for i in 0..s.len() / 8 {
         let mark = gain_at(marks, s, i);
         if mark != 0 {
             let block = 8 * (i + 1) - from;
@@ -138,38 +109,25 @@ fn write(s: &[u8], marks: &[u8; 128], out: &mut [u8])
             at = put_commands(out, at + block, mark, terms::number(s, i));
             from = 8 * (i + 1);
         }
-        i += 1;
     }
     words::copy(out, at, s, from, s.len() - from);
 }
 
 // ---- all
 
-// Writes the script as the guideline rewrites it to the front of `out`.
-pub fn rewrite(script: &[u8], guideline: &[u8], out: &mut [u8]) -> Rewritten
-    ensures { after out.new result ≡ rewriting script.now guideline.now out.old }
+// Writes the script as the guideline rewrites it to the front of `out`; how many records that is.
+pub fn rewrite(script: &[u8], guideline: &[u8], out: &mut [u8]) -> Result<u32, Refusal>
+    ensures { after out.new (answer_of result) ≡ rewriting script.now guideline.now out.old }
 {
-    let v = script::check_script(script, Purpose::Rewriting);
-    if v.number != 0 {
-        return refused(v);
-    }
+    script::check_script(script, Purpose::Rewriting)?;
     let definitions = script::definitions(script);
-    let w = guideline::check_guideline(guideline, definitions as u32);
-    if w.number != 0 {
-        return refused(w);
-    }
+    guideline::check_guideline(guideline, definitions as u32)?;
     let marks = marks_of(guideline);
     let records = script.len() / 8 + gained(&marks, definitions);
     if out.len() < 8 * records {
-        return refused(Verdict {
-            number: 21,
-            place: 0,
-        });
+        return Err(Refusal::whole(Reason::OutputShort));
     }
     write(script, &marks, out);
-    Rewritten {
-        number: 0,
-        place: 0,
-        records: records as u32,
-    }
+    let written = records as u32;
+    Ok(written)
 }

@@ -2,7 +2,8 @@
 use mathlib.Core.List.Memᴰ
 use mathlib.Core.List.{List, [], ◌∷◌, ◌++◌, Memᴰ}
 use mathlib.Core.Logic.{◌↔◌}
-use mathlib.Core.Option.{none, some-ne-none}
+use Rattle.std.specs.Prelude.{None}
+use Rattle.std.proofs.lemmas.Option.{none-some}
 use mathlib.Core.Path.{◌≡◌, refl, sym, ap, subst, ◌∙◌}
 use Prim.Native.Nat.{ℕ, suc, ◌+◌, ◌*◌, ◌≤◌}
 use native.Mathlib.Nat.{zero-add}
@@ -13,16 +14,17 @@ use Rattle.calculus.specs.Lists.{each}
 use Rattle.calculus.specs.Term.{Term, Program, records, Scoped, Defined, Bare, BareProgram, bodies, definition_records}
 use Rattle.terms.specs.Encode.{encode, encode_from, encode_program}
 use Rattle.terms.proofs.Encode.{record-length, encode-length, stands-fits}
-use Rattle.refusal.specs.Refusal.{accepted, refuse-not, accepted-parts, Settles, refuse-settles}
-use Rattle.refusal.specs.declared.Verdict.{Verdict}
-use Rattle.script.specs.Check.{due1, due2, due3, due4, due5, due6, due7, broken_at, loose_at, loose_body, undefined_name, first_in, malformed, is_command, misplaced, too_many, definition_count, script_verdict}
+use Rattle.refusal.specs.Refusal.{Verdict, accepted, refuse-not, accepted-parts, Settles, refuse-settles}
+use Rattle.script.specs.Check.{due1, due2, due3, due4, due5, due6, due7, broken_at, loose_body, undefined_name, first_in, malformed, is_command, misplaced, too_many, definition_count, script_verdict}
 use Rattle.script.specs.File.{Definition, File, file_of, program_of}
 use Rattle.script.specs.File.File.{whole, broken}
 use Rattle.script.specs.WellFormed.{InRanges, Commands, WellFormed}
 use Rattle.script.specs.declared.Purpose.{Purpose}
 use Rattle.script.specs.declared.Purpose.TheVariants.{Checking, Rewriting, PlainRun, RewrittenRun}
 use Rattle.script.proofs.Bare.{NoCommand, high-kind, bare-from, bare-into}
-use Rattle.script.proofs.Due.{due1-none, none-due1, first-clear, clear_first, else-none, malformed-clean, loose_none, none-loose}
+use Rattle.terms.proofs.Loose.{scoped-loose, loose-scoped}
+use Rattle.terms.specs.Walk.{loose}
+use Rattle.script.proofs.Due.{due1-none, none-due1, first-clear, clear_first, else-none, malformed-clean}
 use Rattle.script.proofs.Laid.{Laid, bodies_of, laid-file, file-laid, in-into, in-from, Every, every-into, every-from}
 use Rattle.script.proofs.Names.{Known, other-known, bodies-below, below-bodies, defined-from, defined-into}
 use Rattle.script.proofs.Placed.{Right, placed-code, code-placed, placed-from, placed-into}
@@ -34,13 +36,13 @@ use Rattle.script.proofs.Sizes.{laid-count, many-none, none-many}
 
 -- No number is due.
 pub record NoneDue (u : Purpose) (s : List ℕ) : Type 0 where
-  pub one : due1 u s ≡ none
-  pub two : due2 s ≡ none
-  pub three : due3 s ≡ none
-  pub four : due4 s ≡ none
-  pub five : due5 s ≡ none
-  pub six : due6 s ≡ none
-  pub seven : due7 u s ≡ none
+  pub one : due1 u s ≡ None
+  pub two : due2 s ≡ None
+  pub three : due3 s ≡ None
+  pub four : due4 s ≡ None
+  pub five : due5 s ≡ None
+  pub six : due6 s ≡ None
+  pub seven : due7 u s ≡ None
 
 -- A file is accepted exactly where no number is due.
 pub accepted-none : (u : Purpose) (s : List ℕ) → script_verdict u s ≡ accepted → NoneDue u s
@@ -83,12 +85,12 @@ pub record Whole (f : File) : Type 0 where
   pub is : f ≡ whole definitions place main
 
 -- A file is whole where no record is out of place.
-whole_by : (f : File) → broken_at f ≡ none → Whole f
+whole_by : (f : File) → broken_at f ≡ None → Whole f
 whole_by (whole ds m e) q = record { definitions = ds; place = m; main = e; is = refl }
-whole_by (broken j) q = absurd (some-ne-none j q)
+whole_by (broken j) q = absurd (none-some j (sym q))
 
 -- The file that is read is whole where number 3 is not due.
-pub whole-file : (s : List ℕ) → due3 s ≡ none → Whole (file_of s)
+pub whole-file : (s : List ℕ) → due3 s ≡ None → Whole (file_of s)
 whole-file s q = whole_by (file_of s) q
 
 -- An accepted script has at most 128 definitions.
@@ -108,20 +110,20 @@ few-definitions u s {v} e z = on (whole-file s n.three)
 -- ---- number 5
 
 -- The bodies' variables.
-loose-bodies : (ds : List Definition) → loose_body ds ≡ none → (b : Term) → Memᴰ b (bodies_of ds) → Scoped 1 b
+loose-bodies : (ds : List Definition) → loose_body ds ≡ None → (b : Term) → Memᴰ b (bodies_of ds) → Scoped 1 b
 unfolding loose_body each
 loose-bodies [] q b w = absurd (Memᴰ.not-nil w)
 loose-bodies (d ∷ ds) q b (Memᴰ.head e) =
-    let p = else-none (loose_at 1 (d.place + 1) d.body) (loose_body ds) q in rw e (loose_none 1 (d.place + 1) d.body p.0)
+    let p = else-none (loose 1 (d.place + 1) d.body) (loose_body ds) q in rw e (loose-scoped 1 (d.place + 1) d.body p.0)
 loose-bodies (d ∷ ds) q b (Memᴰ.tail w) =
-    let p = else-none (loose_at 1 (d.place + 1) d.body) (loose_body ds) q in loose-bodies ds p.1 b w
+    let p = else-none (loose 1 (d.place + 1) d.body) (loose_body ds) q in loose-bodies ds p.1 b w
 
 -- And back.
-bodies-loose : (ds : List Definition) → ((b : Term) → Memᴰ b (bodies_of ds) → Scoped 1 b) → loose_body ds ≡ none
+bodies-loose : (ds : List Definition) → ((b : Term) → Memᴰ b (bodies_of ds) → Scoped 1 b) → loose_body ds ≡ None
 unfolding loose_body each
 bodies-loose [] h = refl
 bodies-loose (d ∷ ds) h =
-    rw (none-loose 1 (d.place + 1) d.body (h d.body (Memᴰ.head refl))) (bodies-loose ds (λ b w. h b (Memᴰ.tail w)))
+    rw (scoped-loose 1 (d.place + 1) d.body (h d.body (Memᴰ.head refl))) (bodies-loose ds (λ b w. h b (Memᴰ.tail w)))
 
 -- ---- a file that is laid out so
 
@@ -133,27 +135,27 @@ bodies-length (d ∷ ds) = ap suc (bodies-length ds)
 
 module _ (s : List ℕ) (ds : List Definition) (m : ℕ) (e : Term) (h : Laid s 0 ds m e) where
   -- Commands, for checking, rewriting and the plain run.
-  bare-program : first_in s (is_command s) ≡ none → BareProgram (program_of ds e)
+  bare-program : first_in s (is_command s) ≡ None → BareProgram (program_of ds e)
   bare-program q =
       let r = every-into s (NoCommand s) Bare m e (bare-from s) 0 ds h (in-into s (NoCommand s) m e 0 ds h (first-clear s (is_command s) q)) in
       record { definitions = r.bodies; main = r.main }
 
   -- And back.
-  program-bare : BareProgram (program_of ds e) → first_in s (is_command s) ≡ none
+  program-bare : BareProgram (program_of ds e) → first_in s (is_command s) ≡ None
   program-bare b =
       clear_first s (is_command s)
       (in-from s (NoCommand s) m e 0 ds h
       (every-from s (NoCommand s) Bare m e (bare-into s) (λ i n a. high-kind s i (omega (arith, a.kind))) 0 ds h record { bodies = b.definitions; main = b.main }))
 
   -- Function names.
-  defined-program : first_in s (undefined_name s (length ds)) ≡ none → Every (Defined (bodies (bodies_of ds))) (bodies_of ds) e
+  defined-program : first_in s (undefined_name s (length ds)) ≡ None → Every (Defined (bodies (bodies_of ds))) (bodies_of ds) e
   defined-program q =
       every-into s (Known s (length ds)) (Defined (bodies (bodies_of ds))) m e
       (defined-from s (length ds) (bodies (bodies_of ds)) (λ f l. below-bodies (bodies_of ds) f (omega (arith, bodies-length ds)))) 0 ds h
       (in-into s (Known s (length ds)) m e 0 ds h (first-clear s (undefined_name s (length ds)) q))
 
   -- And back.
-  program-defined : Every (Defined (bodies (bodies_of ds))) (bodies_of ds) e → first_in s (undefined_name s (length ds)) ≡ none
+  program-defined : Every (Defined (bodies (bodies_of ds))) (bodies_of ds) e → first_in s (undefined_name s (length ds)) ≡ None
   program-defined d =
       clear_first s (undefined_name s (length ds))
       (in-from s (Known s (length ds)) m e 0 ds h
@@ -162,36 +164,36 @@ module _ (s : List ℕ) (ds : List Definition) (m : ℕ) (e : Term) (h : Laid s 
       (λ i n a. other-known s (length ds) i (λ z. omega (arith, a.kind))) 0 ds h d))
 
   -- Ranges.
-  ranges-program : AllBytes s → due2 s ≡ none → Every InRanges (bodies_of ds) e
+  ranges-program : AllBytes s → due2 s ≡ None → Every InRanges (bodies_of ds) e
   ranges-program b q =
       every-into s (Formed s) InRanges m e (λ i t w c. ranges-from s i t (stands-fits s b i t w) w c) 0 ds h
       (in-into s (Formed s) m e 0 ds h (first-clear s (malformed s) q))
 
   module _ (n : Numbered 0 ds) where
     -- Commands, for the rewritten run.
-    placed-program : due7 RewrittenRun s ≡ none → Commands RewrittenRun (program_of ds e)
+    placed-program : due7 RewrittenRun s ≡ None → Commands RewrittenRun (program_of ds e)
     placed-program q =
         let p = else-none (first_in s (misplaced s)) (too_many s) q in
         let r = placed-from s m e ds h n (in-into s (Right s) m e 0 ds h (first-clear s (misplaced s) p.0)) in
         (λ f b w. rw (zero-add f) at (placed-code 0 (bodies_of ds) r.0 f b w), r.1, many-none s ds m e h r.0 r.1 p.1)
 
     -- And back.
-    program-placed : Commands RewrittenRun (program_of ds e) → due7 RewrittenRun s ≡ none
+    program-placed : Commands RewrittenRun (program_of ds e) → due7 RewrittenRun s ≡ None
     program-placed c =
         let p = code-placed 0 (bodies_of ds) (λ f b w. rw (zero-add f) (c.0 f b w)) in
-        let q : first_in s (misplaced s) ≡ none =
+        let q : first_in s (misplaced s) ≡ None =
         clear_first s (misplaced s) (in-from s (Right s) m e 0 ds h (placed-into s m e 0 0 ds h n p c.1)) in
         rw q (none-many s ds m e h p c.1 c.2)
 
     -- Commands, for each purpose.
-    commands-program : (u : Purpose) → due7 u s ≡ none → Commands u (program_of ds e)
+    commands-program : (u : Purpose) → due7 u s ≡ None → Commands u (program_of ds e)
     commands-program Checking q = bare-program q
     commands-program Rewriting q = bare-program q
     commands-program PlainRun q = bare-program q
     commands-program RewrittenRun q = placed-program q
 
     -- And back.
-    program-commands : (u : Purpose) → Commands u (program_of ds e) → due7 u s ≡ none
+    program-commands : (u : Purpose) → Commands u (program_of ds e) → due7 u s ≡ None
     program-commands Checking c = program-bare c
     program-commands Rewriting c = program-bare c
     program-commands PlainRun c = program-bare c
@@ -201,11 +203,11 @@ module _ (s : List ℕ) (ds : List Definition) (m : ℕ) (e : Term) (h : Laid s 
 
 module _ (u : Purpose) (s : List ℕ) (b : AllBytes s) (ds : List Definition) (m : ℕ) (e : Term) (w : file_of s ≡ whole ds m e) where
   -- Its definitions are numbered in order.
-  numbered-file : due4 s ≡ none → Numbered 0 ds
+  numbered-file : due4 s ≡ None → Numbered 0 ds
   numbered-file q = misnumbered-none 0 ds (rw w at q)
 
   -- Without faults 1 to 4 the file is the bytes of its program.
-  pub file-bytes : due1 u s ≡ none → due2 s ≡ none → due4 s ≡ none → s ≡ encode_program (program_of ds e)
+  pub file-bytes : due1 u s ≡ None → due2 s ≡ None → due4 s ≡ None → s ≡ encode_program (program_of ds e)
   file-bytes p q r =
       laid-bytes s b (due1-none u s p).eights (λ k l t. malformed-clean s k (first-clear s (malformed s) q k l t)) 0 0 ds m e (file-laid s 0 ds m e w) (numbered-file r)
 
@@ -214,7 +216,7 @@ module _ (u : Purpose) (s : List ℕ) (b : AllBytes s) (ds : List Definition) (m
   none-formed n =
       let h = file-laid s 0 ds m e w in
       let o = numbered-file n.four in
-      let v = else-none (loose_body ds) (loose_at 0 m e) (rw w at n.five) in
+      let v = else-none (loose_body ds) (loose 0 m e) (rw w at n.five) in
       let r = ranges-program s ds m e h b n.two in
       let d = defined-program s ds m e h (rw w at n.six) in
       record {
@@ -223,7 +225,7 @@ module _ (u : Purpose) (s : List ℕ) (b : AllBytes s) (ds : List Definition) (m
         body_ranges = r.bodies;
         main_ranges = r.main;
         body_scoped = loose-bodies ds v.0;
-        main_scoped = loose_none 0 m e v.1;
+        main_scoped = loose-scoped 0 m e v.1;
         body_defined = d.bodies;
         main_defined = d.main;
         commands = commands-program s ds m e h o u n.seven;
@@ -287,7 +289,7 @@ module _ (u : Purpose) (S : Program) (f : WellFormed u S) where
         two = clear_first s (malformed s) (in-from s (Formed s) m e 0 ds h (ranges-file s 0 0 S.definitions e record { bodies = f.body_ranges; main = f.main_ranges } (omega (arith, f.few)) q));
         three = rw w;
         four = rw w (none-misnumbered 0 ds o);
-        five = rw (w, bodies-loose ds g.body_scoped) (none-loose 0 m e g.main_scoped);
+        five = rw (w, bodies-loose ds g.body_scoped) (scoped-loose 0 m e g.main_scoped);
         six = rw w (program-defined s ds m e h record { bodies = g.body_defined; main = g.main_defined });
         seven = program-commands s ds m e h o u g.commands;
       }

@@ -1,54 +1,59 @@
 -- The refusals in their order, one law for each way out of the check. Assumes nothing.
 use mathlib.Core.Bool.{Bool, true, false, not, ◌||◌}
 use mathlib.Core.List.{List}
-use mathlib.Core.Option.{Option, none, some}
+use Rattle.std.specs.Prelude.{Option, None, Some, Result, Ok, Err}
+use Rattle.std.specs.Option.{option_or}
 use mathlib.Core.Path.{◌≡◌, refl, sym, ap, ◌∙◌}
 use Prim.Native.Nat.{ℕ, ◌+◌, ◌-◌, ◌*◌, ◌%◌, ◌<◌, ◌≤◌}
+use native.Mathlib.Decide.{dec_lt}
 use native.Mathlib.Omega.{arith}
 use lib.Dec.{eqb, ltb}
 use lib.ListN.{length}
 use borrow.Author.Tests.{ltb-false, lt-ltb, le-ltb}
 use Rattle.terms.specs.Record.{count}
 use Rattle.refusal.specs.First.{first_below}
-use Rattle.refusal.specs.Refusal.{verdict, accepted, refuse_if, due_if, or_else, due-at, due-not, refuse-due, refuse-not}
-use Rattle.refusal.specs.declared.Verdict.{Verdict}
-use Rattle.script.specs.File.{file_of}
-use Rattle.script.specs.Check.{most_records, first_in, malformed, undefined_name, definition_count, commands_below, too_many, due1, due2, due3, due5, due6, due7, script_verdict}
+use Rattle.refusal.specs.Refusal.{Verdict, verdict, accepted, refuse_if, due_if, due-at, due-not, refuse-due, refuse-not}
+use Rattle.script.specs.Check.{most_records, first_in, undefined_name, commands_below, too_many, due1, due2, due3, due5, due6, due7, script_verdict}
 use Rattle.script.specs.Layout.{Told, Tells, whole_verdict}
 use Rattle.script.specs.declared.Faults.{Faults}
-use Rattle.script.specs.declared.Layout.{Layout}
-use Rattle.script.specs.declared.Layout.TheVariants.{Broken, Whole}
 use Rattle.script.specs.declared.Purpose.{Purpose}
 use Rattle.script.specs.declared.Purpose.TheVariants.{Checking, Rewriting, PlainRun, RewrittenRun}
 
 -- ---- a search through the file
 
-module _ (s : List ℕ) (p : ℕ → Bool) {m : ℕ} (e : m ≡ first_below p (count s)) where
-  found : m < count s → first_in s p ≡ some m
-  found h = rw (← e) (due-at m (count s) h)
+-- An `if let` passed over.
+pub none_from : {o : Option ℕ} → ((m : ℕ) → o ≡ Some m → ⊥) → o ≡ None
+none_from {o = Some m} n = absurd (n m refl)
+none_from {o = None} n = refl
 
-  nothing : count s ≤ m → first_in s p ≡ none
-  nothing h = rw (← e) (due-not m (count s) h)
+-- What is found is a record.
+pub first-inside : (s : List ℕ) (p : ℕ → Bool) {o : Option ℕ} {m : ℕ} → o ≡ first_in s p → o ≡ Some m → m < count s
+first-inside s p {m = m} e h = on (dec_lt (first_below p (count s)) (count s))
+  where
+    on : Dec (first_below p (count s) < count s) → m < count s
+    on (yes l) = let q : Some (first_below p (count s)) ≡ Some m = sym (due-at _ _ l) ∙ sym e ∙ h in let z : first_below p (count s) ≡ m = cc in omega arith
+    on (no l) = let q : None ≡ Some m = sym (due-not _ _ (omega arith)) ∙ sym e ∙ h in cc
 
-  -- ---- number 7
+-- ---- number 7
 
+module _ {o d : Option ℕ} (e : o ≡ d) where
   module _ {v : Verdict} where
     -- A command where none may stand.
-    pub bare-found : m < count s → v ≡ verdict 7 m → v ≡ refuse_if 7 (first_in s p) accepted
-    bare-found h r = r ∙ sym (refuse-due 7 accepted (found h))
+    pub bare-found : {m : ℕ} → o ≡ Some m → v ≡ verdict 7 m → v ≡ refuse_if 7 d accepted
+    bare-found h r = r ∙ sym (refuse-due 7 accepted (sym e ∙ h))
 
     -- No command.
-    pub bare-none : count s ≤ m → v ≡ accepted → v ≡ refuse_if 7 (first_in s p) accepted
-    bare-none h r = r ∙ sym (refuse-not 7 accepted (nothing h))
+    pub bare-none : o ≡ None → v ≡ accepted → v ≡ refuse_if 7 d accepted
+    bare-none h r = r ∙ sym (refuse-not 7 accepted (sym e ∙ h))
 
   module _ (q : Option ℕ) {v : Verdict} where
     -- A misplaced command.
-    pub command-found : m < count s → v ≡ verdict 7 m → v ≡ refuse_if 7 (or_else (first_in s p) q) accepted
-    command-found h r = r ∙ sym (refuse-due 7 accepted (ap (λ (o : Option ℕ). or_else o q) (found h)))
+    pub command-found : {m : ℕ} → o ≡ Some m → v ≡ verdict 7 m → v ≡ refuse_if 7 (option_or d q) accepted
+    command-found h r = r ∙ sym (refuse-due 7 accepted (ap (λ (o : Option ℕ). option_or o q) (sym e ∙ h)))
 
     -- No misplaced command.
-    pub command-none : count s ≤ m → v ≡ refuse_if 7 q accepted → v ≡ refuse_if 7 (or_else (first_in s p) q) accepted
-    command-none h r = r ∙ ap (λ (o : Option ℕ). refuse_if 7 (or_else o q) accepted) (sym (nothing h))
+    pub command-none : o ≡ None → v ≡ refuse_if 7 q accepted → v ≡ refuse_if 7 (option_or d q) accepted
+    command-none h r = r ∙ ap (λ (o : Option ℕ). refuse_if 7 (option_or o q) accepted) (sym (sym e ∙ h))
 
 module _ (s : List ℕ) {k : ℕ} (e : k ≡ commands_below s (count s)) {v : Verdict} where
   -- Too many records besides commands and their arguments.
@@ -77,35 +82,35 @@ module _ (u : Purpose) (s : List ℕ) where
 
   module _ {f : Faults} (t : Told s f) where
     -- Number 4 is due.
-    pub refused-4 : {v : Verdict} → f.misnumbered < count s → v ≡ verdict 4 f.misnumbered → v ≡ whole_verdict u s
-    refused-4 h r = r ∙ sym (refuse-due 4 from5 (t.numbered ∙ due-at f.misnumbered (count s) h))
+    pub refused-4 : {v : Verdict} {m : ℕ} → f.misnumbered ≡ Some m → v ≡ verdict 4 m → v ≡ whole_verdict u s
+    refused-4 h r = r ∙ sym (refuse-due 4 from5 (t.numbered ∙ h))
 
-    module _ (n4 : count s ≤ f.misnumbered) where
+    module _ (n4 : f.misnumbered ≡ None) where
       past4 : whole_verdict u s ≡ from5
-      past4 = refuse-not 4 from5 (t.numbered ∙ due-not f.misnumbered (count s) n4)
+      past4 = refuse-not 4 from5 (t.numbered ∙ n4)
 
       -- Number 5 is due.
-      pub refused-5 : {v : Verdict} → f.loose < count s → v ≡ verdict 5 f.loose → v ≡ whole_verdict u s
-      refused-5 h r = r ∙ sym (past4 ∙ refuse-due 5 from6 (t.scoped ∙ due-at f.loose (count s) h))
+      pub refused-5 : {v : Verdict} {m : ℕ} → f.loose ≡ Some m → v ≡ verdict 5 m → v ≡ whole_verdict u s
+      refused-5 h r = r ∙ sym (past4 ∙ refuse-due 5 from6 (t.scoped ∙ h))
 
-      module _ (n5 : count s ≤ f.loose) {k : ℕ} (e6 : k ≡ first_below (undefined_name s f.definitions) (count s)) where
+      module _ (n5 : f.loose ≡ None) {o : Option ℕ} (e6 : o ≡ first_in s (undefined_name s f.definitions)) where
         past5 : whole_verdict u s ≡ from6
-        past5 = past4 ∙ refuse-not 5 from6 (t.scoped ∙ due-not f.loose (count s) n5)
+        past5 = past4 ∙ refuse-not 5 from6 (t.scoped ∙ n5)
 
-        named : k ≡ first_below (undefined_name s (definition_count (file_of s))) (count s)
-        named = e6 ∙ ap (λ (n : ℕ). first_below (undefined_name s n) (count s)) (sym t.counted)
+        named : o ≡ due6 s
+        named = e6 ∙ ap (λ (n : ℕ). first_in s (undefined_name s n)) (sym t.counted)
 
         -- Number 6 is due.
-        pub refused-6 : {v : Verdict} → k < count s → v ≡ verdict 6 k → v ≡ whole_verdict u s
-        refused-6 h r = r ∙ sym (past5 ∙ refuse-due 6 from7 (found s (undefined_name s (definition_count (file_of s))) named h))
+        pub refused-6 : {v : Verdict} {m : ℕ} → o ≡ Some m → v ≡ verdict 6 m → v ≡ whole_verdict u s
+        refused-6 h r = r ∙ sym (past5 ∙ refuse-due 6 from7 (sym named ∙ h))
 
         -- None of 4 to 6 is due.
-        pub refused-7 : {v : Verdict} → count s ≤ k → v ≡ from7 → v ≡ whole_verdict u s
-        refused-7 h r = r ∙ sym (past5 ∙ refuse-not 6 from7 (nothing s (undefined_name s (definition_count (file_of s))) named h))
+        pub refused-7 : {v : Verdict} → o ≡ None → v ≡ from7 → v ≡ whole_verdict u s
+        refused-7 h r = r ∙ sym (past5 ∙ refuse-not 6 from7 (sym named ∙ h))
 
 -- ---- numbers 1 to 3
 
-not-due : (b : Bool) → due_if b ≡ none → b ≡ false
+not-due : (b : Bool) → due_if b ≡ None → b ≡ false
 not-due true e = let z : ◌≡◌ {A = ℕ} 0 1 = cc in absurd (omega arith)
 not-due false e = refl
 
@@ -121,7 +126,7 @@ most PlainRun = omega arith
 most RewrittenRun = omega arith
 
 -- What the walk tells of a whole file.
-pub told : (s : List ℕ) {l : Layout} {f : Faults} → Tells s l → l ≡ Whole f → Told s f
+pub told : (s : List ℕ) {l : Result Faults ℕ} {f : Faults} → Tells s l → l ≡ Ok f → Told s f
 told s t q = rw q at t
 
 module _ (u : Purpose) (s : List ℕ) where
@@ -150,19 +155,19 @@ module _ (u : Purpose) (s : List ℕ) where
           ltb-false (most_records u) (count s) (neither (eqb (length s) 0) (not (eqb (length s % 8) 0)) (ltb (most_records u) (count s)) f) in
           omega (arith, most u)
 
-      module _ {m : ℕ} (e2 : m ≡ first_below (malformed s) (count s)) where
+      module _ {r : Option ℕ} (e2 : r ≡ due2 s) where
         -- Number 2 is due.
-        pub refused-2 : {v : Verdict} → m < count s → v ≡ verdict 2 m → v ≡ script_verdict u s
-        refused-2 h r = r ∙ sym (past1 ∙ refuse-due 2 from3 (found s (malformed s) e2 h))
+        pub refused-2 : {v : Verdict} {m : ℕ} → r ≡ Some m → v ≡ verdict 2 m → v ≡ script_verdict u s
+        refused-2 h q = q ∙ sym (past1 ∙ refuse-due 2 from3 (sym e2 ∙ h))
 
-        module _ (n2 : count s ≤ m) where
+        module _ (n2 : r ≡ None) where
           past2 : script_verdict u s ≡ from3
-          past2 = past1 ∙ refuse-not 2 from3 (nothing s (malformed s) e2 n2)
+          past2 = past1 ∙ refuse-not 2 from3 (sym e2 ∙ n2)
 
           -- Number 3 is due.
-          pub refused-3 : {v : Verdict} {l : Layout} {j : ℕ} → Tells s l → l ≡ Broken j → v ≡ verdict 3 j → v ≡ script_verdict u s
-          refused-3 t q r = r ∙ sym (past2 ∙ refuse-due 3 (whole_verdict u s) (rw q at t))
+          pub refused-3 : {v : Verdict} {l : Result Faults ℕ} {j : ℕ} → Tells s l → l ≡ Err j → v ≡ verdict 3 j → v ≡ script_verdict u s
+          refused-3 t q z = z ∙ sym (past2 ∙ refuse-due 3 (whole_verdict u s) (rw q at t))
 
           -- None of 1 to 3 is due.
-          pub refused-later : {v : Verdict} {l : Layout} {f : Faults} → Tells s l → l ≡ Whole f → v ≡ whole_verdict u s → v ≡ script_verdict u s
-          refused-later t q r = r ∙ sym (past2 ∙ refuse-not 3 (whole_verdict u s) (told s t q).unbroken)
+          pub refused-later : {v : Verdict} {l : Result Faults ℕ} {f : Faults} → Tells s l → l ≡ Ok f → v ≡ whole_verdict u s → v ≡ script_verdict u s
+          refused-later t q z = z ∙ sym (past2 ∙ refuse-not 3 (whole_verdict u s) (told s t q).unbroken)

@@ -1,23 +1,22 @@
 -- What it says that a number is not due. Assumes nothing.
 use mathlib.Core.Bool.{Bool, true, false, cond, not, ◌&&◌, ◌||◌}
 use mathlib.Core.List.{List}
-use mathlib.Core.Option.{Option, none, some, some-ne-none}
+use Rattle.std.specs.Prelude.{Option, None, Some}
+use Rattle.std.proofs.lemmas.Option.{none-some}
 use mathlib.Core.Path.{◌≡◌, refl, sym, ◌∙◌}
-use Prim.Native.Nat.{ℕ, ◌+◌, ◌*◌, ◌%◌, ◌<◌, ◌≤◌}
+use Prim.Native.Nat.{ℕ, ◌*◌, ◌%◌, ◌<◌, ◌≤◌}
 use native.Mathlib.Decide.{dec_lt}
 use native.Mathlib.Omega.{arith}
 use lib.Dec.{eqb, ltb}
 use lib.ListN.{length}
 use borrow.Author.Tests.{le-ltb, ltb-false, eqb-true, eqb-false, eq-eqb, ne_eqb, not-false}
-use Rattle.calculus.specs.Term.{Term, records, Scoped}
 use Rattle.terms.specs.Record.{count, kind_at, spare_at, record_number, in_range}
 use Rattle.terms.specs.Encode.{Clean}
-use Rattle.terms.specs.Walk.{loose}
 use Rattle.terms.proofs.Encode.{range-clean}
-use Rattle.terms.proofs.Loose.{loose-bounds, loose-exact}
 use Rattle.refusal.specs.First.{first_below, first-before, first-none}
-use Rattle.refusal.specs.Refusal.{due_below, or_else, due-at, due-not}
-use Rattle.script.specs.Check.{most_records, due1, first_in, malformed, loose_at}
+use Rattle.std.specs.Option.{option_or}
+use Rattle.refusal.specs.Refusal.{due_below, due-at, due-not}
+use Rattle.script.specs.Check.{most_records, due1, first_in, malformed}
 use Rattle.script.specs.declared.Purpose.{Purpose}
 use Rattle.script.proofs.Each.{Between}
 
@@ -34,34 +33,34 @@ both_false true b e = let z : ◌≡◌ {A = ℕ} 0 1 = cc in absurd (omega arit
 both_false false b e = (refl, e)
 
 -- A number that is not due where a test fails: the test did not.
-pub cond-none : (b : Bool) (n : ℕ) → cond b (some n) none ≡ none → b ≡ false
-cond-none true n e = absurd (some-ne-none n e)
+pub cond-none : (b : Bool) (n : ℕ) → cond b (Some n) None ≡ None → b ≡ false
+cond-none true n e = absurd (none-some n (sym e))
 cond-none false n e = refl
 
 -- ---- searches
 
 -- A search comes to its end exactly where nothing before it is found.
-pub below_none : (m n : ℕ) → due_below m n ≡ none → n ≤ m
+pub below_none : (m n : ℕ) → due_below m n ≡ None → n ≤ m
 below_none m n e = on (dec_lt m n)
   where
     on : Dec (m < n) → n ≤ m
-    on (yes h) = absurd (some-ne-none m (sym (due-at m n h) ∙ e))
+    on (yes h) = absurd (none-some m (sym e ∙ due-at m n h))
     on (no h) = omega arith
 
 -- No record of the file fails the test, …
-pub first-clear : (s : List ℕ) (p : ℕ → Bool) → first_in s p ≡ none → Between (λ k. p k ≡ false) 0 (count s)
+pub first-clear : (s : List ℕ) (p : ℕ → Bool) → first_in s p ≡ None → Between (λ k. p k ≡ false) 0 (count s)
 first-clear s p e k l h =
     first-before p (count s) k (omega (arith, below_none (first_below p (count s)) (count s) e))
 
 -- … exactly where no number is due for it.
-pub clear_first : (s : List ℕ) (p : ℕ → Bool) → Between (λ k. p k ≡ false) 0 (count s) → first_in s p ≡ none
+pub clear_first : (s : List ℕ) (p : ℕ → Bool) → Between (λ k. p k ≡ false) 0 (count s) → first_in s p ≡ None
 clear_first s p h =
     let e = first-none p (count s) (λ k l. h k (omega arith) l) in due-not (first_below p (count s)) (count s) (omega arith)
 
 -- The first of two searches.
-pub else-none : (p q : Option ℕ) → or_else p q ≡ none → (p ≡ none) × (q ≡ none)
-else-none none q e = (refl, e)
-else-none (some p) q e = absurd (some-ne-none p e)
+pub else-none : (p q : Option ℕ) → option_or p q ≡ None → (p ≡ None) × (q ≡ None)
+else-none None q e = (refl, e)
+else-none (Some p) q e = absurd (none-some p (sym e))
 
 -- ---- number 1
 
@@ -72,7 +71,7 @@ pub record Lengths (u : Purpose) (s : List ℕ) : Type 0 where
   pub most : count s ≤ most_records u
 
 -- It is so where number 1 is not due, …
-pub due1-none : (u : Purpose) (s : List ℕ) → due1 u s ≡ none → Lengths u s
+pub due1-none : (u : Purpose) (s : List ℕ) → due1 u s ≡ None → Lengths u s
 due1-none u s e =
     let t = both_false (eqb (length s) 0) (not (eqb (length s % 8) 0) || ltb (most_records u) (count s)) (cond-none _ 0 e) in
     let r = both_false (not (eqb (length s % 8) 0)) (ltb (most_records u) (count s)) t.1 in
@@ -81,7 +80,7 @@ due1-none u s e =
     record { filled = omega arith; eights = omega arith; most = ltb-false (most_records u) (count s) r.1 }
 
 -- … and there only.
-pub none-due1 : (u : Purpose) (s : List ℕ) → Lengths u s → due1 u s ≡ none
+pub none-due1 : (u : Purpose) (s : List ℕ) → Lengths u s → due1 u s ≡ None
 none-due1 u s h =
     let m : length s % 8 ≡ 0 = omega (arith, h.eights) in
     rw (ne_eqb (length s) 0 (λ e. omega (arith, h.filled)), m, le-ltb (most_records u) (count s) h.most)
@@ -101,13 +100,3 @@ not-malformed s i z r = rw (eq-eqb (spare_at s i) 0 z, r)
 -- It is clean.
 pub malformed-clean : (s : List ℕ) (i : ℕ) → malformed s i ≡ false → Clean s i
 malformed-clean s i e = let p = malformed-not s i e in range-clean s i p.0 p.1
-
--- ---- number 5
-
--- No variable of a term is too large exactly where the term is scoped.
-pub loose_none : (d i : ℕ) (t : Term) → loose_at d i t ≡ none → Scoped d t
-loose_none d i t e = (loose-exact d i t).0 (omega (arith, below_none (loose d i t) (i + records t) e, (loose-bounds d i t).1))
-
--- And back.
-pub none-loose : (d i : ℕ) (t : Term) → Scoped d t → loose_at d i t ≡ none
-none-loose d i t h = due-not (loose d i t) (i + records t) (omega (arith, (loose-exact d i t).1 h))

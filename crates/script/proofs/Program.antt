@@ -1,7 +1,8 @@
 -- A program's bytes are read back as that program, and the bytes of a file without faults 1 to 4 are those of its program. Assumes nothing.
 use mathlib.Core.Bool.{Bool, true, false, cond, ◌&&◌}
 use mathlib.Core.List.{List, [], ◌∷◌, ◌++◌, append-nil, Memᴰ}
-use mathlib.Core.Option.{none, some, some-ne-none}
+use Rattle.std.specs.Prelude.{None, Some}
+use Rattle.std.proofs.lemmas.Option.{none-some}
 use mathlib.Core.Path.{◌≡◌, refl, sym, ap, ap₂, ◌∙◌}
 use Prim.Native.Nat.{ℕ, suc, ◌+◌, ◌*◌, ◌^◌, ◌<◌, ◌≤◌}
 use native.Mathlib.Omega.{arith}
@@ -110,19 +111,19 @@ Numbered f [] = Unit {0}
 Numbered f (d ∷ ds) = (d.number ≡ f) × (f < 128) × Numbered (suc f) ds
 
 -- They are where number 4 is not due, …
-pub misnumbered-none : (f : ℕ) (ds : List Definition) → misnumbered f ds ≡ none → Numbered f ds
+pub misnumbered-none : (f : ℕ) (ds : List Definition) → misnumbered f ds ≡ None → Numbered f ds
 unfolding misnumbered
 misnumbered-none f [] e = tt
 misnumbered-none f (d ∷ ds) e = on (eqb d.number f) (ltb f 128) refl refl (λ q. misnumbered-none (suc f) ds q) e
   where
-    on : (a b : Bool) → eqb d.number f ≡ a → ltb f 128 ≡ b → (misnumbered (suc f) ds ≡ none → Numbered (suc f) ds)
-        → cond (a && b) (misnumbered (f + 1) ds) (some d.place) ≡ none → Numbered f (d ∷ ds)
+    on : (a b : Bool) → eqb d.number f ≡ a → ltb f 128 ≡ b → (misnumbered (suc f) ds ≡ None → Numbered (suc f) ds)
+        → cond (a && b) (misnumbered (f + 1) ds) (Some d.place) ≡ None → Numbered f (d ∷ ds)
     on true true p q below r = (eqb-true d.number f p, ltb-true f 128 q, below (rw (add-one f) at r))
-    on true false p q below r = absurd (some-ne-none d.place r)
-    on false b p q below r = absurd (some-ne-none d.place r)
+    on true false p q below r = absurd (none-some d.place (sym r))
+    on false b p q below r = absurd (none-some d.place (sym r))
 
 -- … and there only.
-pub none-misnumbered : (f : ℕ) (ds : List Definition) → Numbered f ds → misnumbered f ds ≡ none
+pub none-misnumbered : (f : ℕ) (ds : List Definition) → Numbered f ds → misnumbered f ds ≡ None
 unfolding misnumbered
 none-misnumbered f [] h = refl
 none-misnumbered f (d ∷ ds) h =

@@ -1,7 +1,7 @@
 -- The records besides commands and their arguments: all the records less two for each command. Assumes nothing.
 use mathlib.Core.Bool.{true}
 use mathlib.Core.List.{List, [], ◌∷◌}
-use mathlib.Core.Option.{none}
+use Rattle.std.specs.Prelude.{None}
 use mathlib.Core.Path.{◌≡◌, ap, ◌∙◌}
 use Prim.Native.Nat.{ℕ, zero, suc, ◌+◌, ◌-◌, ◌*◌, ◌≤◌}
 use native.Mathlib.Nat.{add-zero}
@@ -101,9 +101,9 @@ module _ (s : List ℕ) (ds : List Definition) (m : ℕ) (e : Term) (h : Laid s 
   count-size = omega (arith, file-size s 0 0 ds m e h p b, laid-count s 0 ds m e h)
 
   -- So that "over 1,024 records besides commands and their arguments" is about that size.
-  pub many-none : too_many s ≡ none → definition_sizes (bodies_of ds) + size e ≤ 1024
+  pub many-none : too_many s ≡ None → definition_sizes (bodies_of ds) + size e ≤ 1024
   many-none q = omega (arith, count-size, ltb-false 1024 (count s - 2 * commands_below s (count s)) (cond-none _ (count s) q))
 
   -- And back.
-  pub none-many : definition_sizes (bodies_of ds) + size e ≤ 1024 → too_many s ≡ none
+  pub none-many : definition_sizes (bodies_of ds) + size e ≤ 1024 → too_many s ≡ None
   none-many l = rw (le-ltb 1024 (count s - 2 * commands_below s (count s)) (omega (arith, count-size)))

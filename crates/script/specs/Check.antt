@@ -1,13 +1,10 @@
 -- The script author's refusals, 1 to 7 (document 01, "Numbers by who can cause them"): each number is the first faulty record of the whole
 -- file, or not due. Assumes nothing.
-use Rattle.std.specs.Prelude.{Bool, cond, not, ◌&&◌, ◌||◌, List, [], ◌∷◌, ℕ, zero, suc, ◌+◌, ◌-◌, ◌*◌, ◌%◌, eqb, leb, ltb, length}
-use Rattle.std.proofs.Math.Option.{Option, none, some}
-use Rattle.calculus.specs.Term.{Term, records}
+use Rattle.std.specs.Prelude.{Bool, cond, not, ◌&&◌, ◌||◌, List, [], ◌∷◌, ℕ, zero, suc, ◌+◌, ◌-◌, ◌*◌, ◌%◌, eqb, leb, ltb, length, Option, None, Some}
+use Rattle.std.specs.Option.{option_or}
 use Rattle.terms.specs.Record.{count, kind_at, spare_at, record_number, in_range}
 use Rattle.terms.specs.Walk.{loose}
-use Rattle.refusal.specs.First.{first_below}
-use Rattle.refusal.specs.Refusal.{accepted, refuse_if, due_if, due_below, or_else}
-use Rattle.refusal.specs.declared.Verdict.{Verdict}
+use Rattle.refusal.specs.Refusal.{Verdict, accepted, refuse_if, due_if, found_below}
 use Rattle.script.specs.File.{Definition, File, file_of}
 use Rattle.script.specs.File.File.{whole, broken}
 use Rattle.script.specs.declared.Purpose.{Purpose}
@@ -27,7 +24,7 @@ due1 u s = due_if (eqb (length s) 0 || (not (eqb (length s % 8) 0) || ltb (most_
 
 -- The first record of the file that fails a test.
 abbrev pub first_in : List ℕ → (ℕ → Bool) → Option ℕ
-first_in s p = due_below (first_below p (count s)) (count s)
+first_in s p = found_below p (count s)
 
 -- "2 unknown kind, spare byte or range"
 abbrev pub malformed : List ℕ → ℕ → Bool
@@ -38,35 +35,32 @@ due2 s = first_in s (malformed s)
 
 -- "3 a record that cannot stand here, or the end too early (place: record count)"
 abbrev pub broken_at : File → Option ℕ
-broken_at (whole ds i e) = none
-broken_at (broken j) = some j
+broken_at (whole ds i e) = None
+broken_at (broken j) = Some j
 
 abbrev pub due3 : List ℕ → Option ℕ
 due3 s = broken_at (file_of s)
 
 -- "4 definition number not the next, or a 129th": the first such definition's record, k definitions standing before these.
 unfoldable pub misnumbered : ℕ → List Definition → Option ℕ
-misnumbered k [] = none
-misnumbered k (d ∷ ds) = cond (eqb d.number k && ltb k 128) (misnumbered (k + 1) ds) (some d.place)
+misnumbered k [] = None
+misnumbered k (d ∷ ds) = cond (eqb d.number k && ltb k 128) (misnumbered (k + 1) ds) (Some d.place)
 
 abbrev pub misnumbered_in : File → Option ℕ
 misnumbered_in (whole ds i e) = misnumbered 0 ds
-misnumbered_in (broken j) = none
+misnumbered_in (broken j) = None
 
 abbrev pub due4 : List ℕ → Option ℕ
 due4 s = misnumbered_in (file_of s)
 
--- "5 variable too large", with d abstractions around a term at record i; "a definition counting as one".
-abbrev pub loose_at : ℕ → ℕ → Term → Option ℕ
-loose_at d i e = due_below (loose d i e) (i + records e)
-
+-- "5 variable too large"; "a definition counting as one" abstraction.
 unfoldable pub loose_body : List Definition → Option ℕ
-loose_body [] = none
-loose_body (d ∷ ds) = or_else (loose_at 1 (d.place + 1) d.body) (loose_body ds)
+loose_body [] = None
+loose_body (d ∷ ds) = option_or (loose 1 (d.place + 1) d.body) (loose_body ds)
 
 abbrev pub loose_in : File → Option ℕ
-loose_in (whole ds i e) = or_else (loose_body ds) (loose_at 0 i e)
-loose_in (broken j) = none
+loose_in (whole ds i e) = option_or (loose_body ds) (loose 0 i e)
+loose_in (broken j) = None
 
 abbrev pub due5 : List ℕ → Option ℕ
 due5 s = loose_in (file_of s)
@@ -113,13 +107,13 @@ commands_below s (suc n) = cond (is_command s n) 1 0 + commands_below s n
 
 -- Where every command is placed, each has an argument of one record.
 abbrev pub too_many : List ℕ → Option ℕ
-too_many s = cond (ltb 1024 (count s - 2 * commands_below s (count s))) (some (count s)) none
+too_many s = cond (ltb 1024 (count s - 2 * commands_below s (count s))) (Some (count s)) None
 
 abbrev pub due7 : Purpose → List ℕ → Option ℕ
 due7 Checking s = first_in s (is_command s)
 due7 Rewriting s = first_in s (is_command s)
 due7 PlainRun s = first_in s (is_command s)
-due7 RewrittenRun s = or_else (first_in s (misplaced s)) (too_many s)
+due7 RewrittenRun s = option_or (first_in s (misplaced s)) (too_many s)
 
 -- ---- "Each is tested over the whole file before the next number."
 

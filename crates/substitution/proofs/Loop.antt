@@ -9,6 +9,7 @@ use borrow.Author.Tests.{eqb-true, eq-eqb, ne_eqb}
 use lib.Dec.{eqb}
 use lib.ListN.{length, take, drop, set, get_or, length-append, length-drop, length-set}
 use lib.Seq.{take_at, get_or-drop, get_or-set_same, get_or-set_other}
+use Rattle.std.specs.Prelude.{Option, Some, None}
 use Rattle.words.specs.Bytes.{bytes, part, bytes-length, part_none, part-append}
 use Rattle.words.specs.Put.{put, put-length, put-put, put-none}
 use Rattle.calculus.specs.Term.{Term, records}
@@ -18,8 +19,6 @@ use Rattle.terms.specs.Encode.{encode, Fits}
 use Rattle.terms.proofs.Encode.{encode-length, record-inside, record-number, record-rest}
 use Rattle.substitution.specs.Copied.{copied, Lies, WrittenIs}
 use Rattle.substitution.specs.Stack.{closed}
-use Rattle.substitution.specs.declared.Substituted.{Substituted}
-use Rattle.substitution.specs.declared.Substituted.TheVariants.{Done, Full}
 use Rattle.substitution.proofs.Levels.{total, flat_g, flat, copies_g, copies, Plains, Stack, Open, plain, stack-kept, records-some, many-flat, closed-le, close}
 
 -- ---- a record
@@ -53,7 +52,7 @@ last-group x y z = append_assoc x y z ∙ ap (λ (w : List ℕ). w ++ (y ++ z)) 
 
 -- The records that are passed and not yet written.
 abbrev pub passed : List ℕ → ℕ → ℕ → List ℕ
-passed s from i = part s (8 * from) (8 * (i - from))
+passed s from i = part s (8 * from) (8 * i - 8 * from)
 
 -- What is written at a use: these, and the value.
 abbrev pub piece : List ℕ → List ℕ → ℕ → ℕ → List ℕ
@@ -76,7 +75,7 @@ more-further k a b = by (ℕ_discrete k 10)
 
 -- ---- the loop
 
-module _ (s u o : List ℕ) (at lim : ℕ) (t : Term) where
+module _ (s u o : List ℕ) (at : ℕ) (t : Term) where
   -- The terms of gs are to come, and the bytes `done` are written.
   pub record Stage (out st : List ℕ) (i from need depth pos : ℕ) (gs : List (List Term)) (done : List ℕ) : Type 0 where
     pub depth_is : suc depth ≡ length gs
@@ -87,8 +86,7 @@ module _ (s u o : List ℕ) (at lim : ℕ) (t : Term) where
     pub pos-is : pos ≡ length done
     pub all : done ++ (passed s from i ++ copies u gs) ≡ copied 0 u t
     pub stack : Stack st gs
-    pub room : pos ≤ lim
-    pub fit : lim ≤ length o
+    pub room : pos ≤ length o
     pub order : from ≤ i
     pub begins : at ≤ from
     pub within : 8 * i ≤ length s
@@ -111,17 +109,22 @@ module _ (s u o : List ℕ) (at lim : ℕ) (t : Term) where
     pub deep : depth + at ≤ i
     pub few : records t ≤ 1024
     pub enough : 8 * (at + records t) ≤ length s
-    pub room : pos ≤ lim
-    pub fit : lim ≤ length out
+    pub room : pos ≤ length o
+    pub same : length out ≡ length o
     pub high : 1024 ≤ length st
 
-module _ {s u o : List ℕ} {at lim : ℕ} {t : Term} where
+  -- What the loops keep.
+  pub record Held (out st : List ℕ) (i from need depth pos : ℕ) : Type 0 where
+    pub going : Going out st i from need depth pos
+    pub numbers : Numbers out st i from need depth pos
+
+module _ {s u o : List ℕ} {at : ℕ} {t : Term} where
   module _ {out st : List ℕ} {i from need depth pos : ℕ} where
-    ends_at : (gs : List (List Term)) (done : List ℕ) → Stage s u o at lim t out st i from need depth pos gs done → 8 * i + length (flat gs) ≡ 8 * (at + records t)
+    ends_at : (gs : List (List Term)) (done : List ℕ) → Stage s u o at t out st i from need depth pos gs done → 8 * i + length (flat gs) ≡ 8 * (at + records t)
     ends_at gs done h =
         omega (arith, ap length h.bytes-are, length-drop (8 * i) s, length-drop (8 * (at + records t)) s, length-append (flat gs) (behind s at t), h.enough, h.within)
 
-    pub numbers : Going s u o at lim t out st i from need depth pos → Numbers s u o at lim t out st i from need depth pos
+    pub numbers : Going s u o at t out st i from need depth pos → Numbers s u o at t out st i from need depth pos
     numbers h =
         let a = h.here in
         let l = many-flat h.groups in
@@ -134,30 +137,33 @@ module _ {s u o : List ℕ} {at lim : ℕ} {t : Term} where
           few = a.few;
           enough = a.enough;
           room = a.room;
-          fit = omega (arith, a.fit, ap length a.out-is, put-length o 0 h.done (omega (arith, a.pos-is, a.room, a.fit)));
+          same = ap length a.out-is ∙ put-length o 0 h.done (omega (arith, a.pos-is, a.room));
           high = a.high;
         }
 
+    pub held : Going s u o at t out st i from need depth pos → Held s u o at t out st i from need depth pos
+    held g = record { going = g; numbers = numbers g }
+
     -- The loops come to an end.
-    pub round-less : Going s u o at lim t out st i from need depth pos → 0 < need → length s / 8 - (i + 1) < length s / 8 - i
+    pub round-less : Going s u o at t out st i from need depth pos → 0 < need → length s / 8 - (i + 1) < length s / 8 - i
     round-less g h = let n = numbers g in omega arith
 
-    pub use-less : (j a b : ℕ) → Going s u o at lim t out st i from need depth pos → 0 < need → j ≤ i → 2 * (length s / 8 - (i + 1)) + min a 1 < 2 * (length s / 8 - j) + min b 1
+    pub use-less : (j a b : ℕ) → Going s u o at t out st i from need depth pos → 0 < need → j ≤ i → 2 * (length s / 8 - (i + 1)) + min a 1 < 2 * (length s / 8 - j) + min b 1
     use-less j a b g h l = let n = numbers g in omega arith
 
     module _ {done : List ℕ} where
       -- One record more that is passed and not yet written: what it leaves to come is gs'.
-      module _ (k n : ℕ) (gs gs' : List (List Term)) (h : Stage s u o at lim t out st i from need depth pos gs done) (f : flat gs ≡ record8 k n (flat gs')) (e : copies u gs ≡ record8 k n (copies u gs')) where
+      module _ (k n : ℕ) (gs gs' : List (List Term)) (h : Stage s u o at t out st i from need depth pos gs done) (f : flat gs ≡ record8 k n (flat gs')) (e : copies u gs ≡ record8 k n (copies u gs')) where
         head : drop (8 * i) s ≡ record8 k n (flat gs' ++ behind s at t)
         head = h.bytes-are ∙ ap (λ (x : List ℕ). x ++ behind s at t) f ∙ record-append k n (flat gs') (behind s at t)
 
         on-run : passed s from (i + 1) ≡ passed s from i ++ record8 k n []
         on-run =
             let o = h.order in
-            let m : 8 * (i + 1 - from) ≡ 8 * (i - from) + 8 = omega arith in
-            let b : 8 * from + 8 * (i - from) ≡ 8 * i = omega arith in
+            let m : 8 * (i + 1) - 8 * from ≡ 8 * i - 8 * from + 8 = omega arith in
+            let b : 8 * from + (8 * i - 8 * from) ≡ 8 * i = omega arith in
             ap (part s (8 * from)) m
-            ∙ part-append s (8 * from) (8 * (i - from)) 8
+            ∙ part-append s (8 * from) (8 * i - 8 * from) 8
             ∙ ap (λ (x : List ℕ). passed s from i ++ x) (ap (λ (p : ℕ). part s p 8) b ∙ record-part s (8 * i) k n (flat gs' ++ behind s at t) head)
 
         on-all : done ++ (passed s from (i + 1) ++ copies u gs') ≡ copied 0 u t
@@ -169,7 +175,7 @@ module _ {s u o : List ℕ} {at lim : ℕ} {t : Term} where
             ∙ h.all
 
         go_on : (st' : List ℕ) (need' depth' : ℕ) → suc depth' ≡ length gs' → need' ≡ total gs' → depth' ≤ depth + 1 → Plains gs' → Stack st' gs' → length st' ≡ length st
-            → Stage s u o at lim t out st' (i + 1) from need' depth' pos gs' done
+            → Stage s u o at t out st' (i + 1) from need' depth' pos gs' done
         go_on st' need' depth' d m p w q l = record {
           depth_is = d;
           need-is = m;
@@ -180,7 +186,6 @@ module _ {s u o : List ℕ} {at lim : ℕ} {t : Term} where
           all = on-all;
           stack = q;
           room = h.room;
-          fit = h.fit;
           order = omega (arith, h.order);
           begins = h.begins;
           within = omega (arith, record-inside s i k n (flat gs' ++ behind s at t) head);
@@ -192,8 +197,8 @@ module _ {s u o : List ℕ} {at lim : ℕ} {t : Term} where
 
       -- ---- by the head of the first group
 
-      at-lam : (n : ℕ) (b : Term) (ts : List Term) (gs : List (List Term)) → Stage s u o at lim t out st i from need depth pos ((lam n b ∷ ts) ∷ gs) done → (st' : List ℕ) → st' ≡ set st depth (need - 1)
-          → Stage s u o at lim t out st' (i + 1) from need (depth + 1) pos ((b ∷ []) ∷ (ts ∷ gs)) done
+      at-lam : (n : ℕ) (b : Term) (ts : List Term) (gs : List (List Term)) → Stage s u o at t out st i from need depth pos ((lam n b ∷ ts) ∷ gs) done → (st' : List ℕ) → st' ≡ set st depth (need - 1)
+          → Stage s u o at t out st' (i + 1) from need (depth + 1) pos ((b ∷ []) ∷ (ts ∷ gs)) done
       at-lam n b ts gs h st' q =
           let d : length gs ≡ depth = omega (arith, h.depth_is) in
           let v : total (ts ∷ gs) ≡ need - 1 = omega (arith, h.need-is) in
@@ -212,15 +217,15 @@ module _ {s u o : List ℕ} {at lim : ℕ} {t : Term} where
       -- An application, 5, or a sum, 9.
       at_pair : (k : ℕ) (w : Term → Term → Term) (a b : Term) (ts : List Term) (gs : List (List Term))
           → encode (w a b) ≡ record8 k 0 (encode a ++ encode b) → copied (length gs) u (w a b) ≡ record8 k 0 (copied (length gs) u a ++ copied (length gs) u b)
-          → Plains ((a ∷ (b ∷ ts)) ∷ gs) → Stage s u o at lim t out st i from need depth pos ((w a b ∷ ts) ∷ gs) done
-          → Stage s u o at lim t out st (i + 1) from (need + 1) depth pos ((a ∷ (b ∷ ts)) ∷ gs) done
+          → Plains ((a ∷ (b ∷ ts)) ∷ gs) → Stage s u o at t out st i from need depth pos ((w a b ∷ ts) ∷ gs) done
+          → Stage s u o at t out st (i + 1) from (need + 1) depth pos ((a ∷ (b ∷ ts)) ∷ gs) done
       at_pair k w a b ts gs f e p h =
           go_on k 0 ((w a b ∷ ts) ∷ gs) ((a ∷ (b ∷ ts)) ∷ gs) h
           (ap (λ (l : List ℕ). (l ++ flat_g ts) ++ flat gs) f ∙ ap (λ (l : List ℕ). k ∷ 0 ∷ 0 ∷ 0 ∷ l) (simp append_assoc))
           (ap (λ (l : List ℕ). (l ++ copies_g (length gs) u ts) ++ copies u gs) e ∙ ap (λ (l : List ℕ). k ∷ 0 ∷ 0 ∷ 0 ∷ l) (simp append_assoc))
           st (need + 1) depth h.depth_is (omega (arith, h.need-is)) (omega arith) p h.stack refl
 
-      at-branch : (c a b : Term) (ts : List Term) (gs : List (List Term)) → Stage s u o at lim t out st i from need depth pos ((branch c a b ∷ ts) ∷ gs) done → Stage s u o at lim t out st (i + 1) from (need + 2) depth pos ((c ∷ (a ∷ (b ∷ ts))) ∷ gs) done
+      at-branch : (c a b : Term) (ts : List Term) (gs : List (List Term)) → Stage s u o at t out st i from need depth pos ((branch c a b ∷ ts) ∷ gs) done → Stage s u o at t out st (i + 1) from (need + 2) depth pos ((c ∷ (a ∷ (b ∷ ts))) ∷ gs) done
       at-branch c a b ts gs h =
           let p = h.plains in
           go_on 10 0 ((branch c a b ∷ ts) ∷ gs) ((c ∷ (a ∷ (b ∷ ts))) ∷ gs) h
@@ -230,21 +235,21 @@ module _ {s u o : List ℕ} {at lim : ℕ} {t : Term} where
           ((p.0.0.0, (p.0.0.1, (p.0.0.2, p.0.1))), p.1) h.stack refl
 
       -- A leaf that is copied as it is.
-      at_leaf : (k n : ℕ) (x : Term) (ts : List Term) (gs : List (List Term)) → encode x ≡ record8 k n [] → copied (length gs) u x ≡ record8 k n [] → Stage s u o at lim t out st i from need depth pos ((x ∷ ts) ∷ gs) done
-          → Stage s u o at lim t out st (i + 1) from (need - 1) depth pos (ts ∷ gs) done
+      at_leaf : (k n : ℕ) (x : Term) (ts : List Term) (gs : List (List Term)) → encode x ≡ record8 k n [] → copied (length gs) u x ≡ record8 k n [] → Stage s u o at t out st i from need depth pos ((x ∷ ts) ∷ gs) done
+          → Stage s u o at t out st (i + 1) from (need - 1) depth pos (ts ∷ gs) done
       at_leaf k n x ts gs f e h =
           go_on k n ((x ∷ ts) ∷ gs) (ts ∷ gs) h
           (ap (λ (l : List ℕ). (l ++ flat_g ts) ++ flat gs) f ∙ ap (λ (l : List ℕ). k ∷ 0 ∷ 0 ∷ 0 ∷ l) (simp append_assoc))
           (ap (λ (l : List ℕ). (l ++ copies_g (length gs) u ts) ++ copies u gs) e ∙ ap (λ (l : List ℕ). k ∷ 0 ∷ 0 ∷ 0 ∷ l) (simp append_assoc))
           st (need - 1) depth h.depth_is (omega (arith, h.need-is)) (omega arith) (h.plains.0.1, h.plains.1) h.stack refl
 
-      var-copies : (n : ℕ) (ts : List Term) (gs : List (List Term)) → Stage s u o at lim t out st i from need depth pos ((var n ∷ ts) ∷ gs) done → n ≡ depth → copies u ((var n ∷ ts) ∷ gs) ≡ u ++ copies u (ts ∷ gs)
+      var-copies : (n : ℕ) (ts : List Term) (gs : List (List Term)) → Stage s u o at t out st i from need depth pos ((var n ∷ ts) ∷ gs) done → n ≡ depth → copies u ((var n ∷ ts) ∷ gs) ≡ u ++ copies u (ts ∷ gs)
       var-copies n ts gs h e =
           let d : n ≡ length gs = omega (arith, h.depth_is) in
           rw (eq-eqb n (length gs) d) (append_assoc u (copies_g (length gs) u ts) (copies u gs))
 
       -- A use of the variable: what was passed and u are written.
-      module _ (n : ℕ) (ts : List Term) (gs : List (List Term)) (h : Stage s u o at lim t out st i from need depth pos ((var n ∷ ts) ∷ gs) done) (e : n ≡ depth) where
+      module _ (n : ℕ) (ts : List Term) (gs : List (List Term)) (h : Stage s u o at t out st i from need depth pos ((var n ∷ ts) ∷ gs) done) (e : n ≡ depth) where
         use-head : drop (8 * i) s ≡ record8 1 n (flat (ts ∷ gs) ++ behind s at t)
         use-head = h.bytes-are ∙ ap (λ (l : List ℕ). 1 ∷ 0 ∷ 0 ∷ 0 ∷ l) (simp append_assoc)
 
@@ -254,11 +259,11 @@ module _ {s u o : List ℕ} {at lim : ℕ} {t : Term} where
             ∙ ap (λ (x : List ℕ). done ++ x) (append_assoc (passed s from i) u (copies u (ts ∷ gs)) ∙ ap (λ (x : List ℕ). passed s from i ++ x) (sym (var-copies n ts gs h e)))
             ∙ h.all
 
-        at-use : (out' : List ℕ) (q : ℕ) → out' ≡ put out pos (piece s u from i) → q ≡ pos + length (piece s u from i) → q ≤ lim → Stage s u o at lim t out' st (i + 1) (i + 1) (need - 1) depth q (ts ∷ gs) (done ++ piece s u from i)
+        at-use : (out' : List ℕ) (q : ℕ) → out' ≡ put out pos (piece s u from i) → q ≡ pos + length (piece s u from i) → q ≤ length o → Stage s u o at t out' st (i + 1) (i + 1) (need - 1) depth q (ts ∷ gs) (done ++ piece s u from i)
         at-use out' q p l r =
-            let fits : 0 + length done ≤ length o = omega (arith, h.pos-is, h.room, h.fit) in
+            let fits : 0 + length done ≤ length o = omega (arith, h.pos-is, h.room) in
             let z : pos ≡ 0 + length done = omega (arith, h.pos-is) in
-            let none : 8 * (i + 1 - (i + 1)) ≡ 0 = omega arith in
+            let none : 8 * (i + 1) - 8 * (i + 1) ≡ 0 = omega arith in
             record {
               depth_is = h.depth_is;
               need-is = omega (arith, h.need-is);
@@ -269,7 +274,6 @@ module _ {s u o : List ℕ} {at lim : ℕ} {t : Term} where
               all = ap (λ (x : ℕ). (done ++ piece s u from i) ++ (part s (8 * (i + 1)) x ++ copies u (ts ∷ gs))) none ∙ ap (λ (x : List ℕ). (done ++ piece s u from i) ++ (x ++ copies u (ts ∷ gs))) (part_none s (8 * (i + 1))) ∙ use-all;
               stack = h.stack;
               room = r;
-              fit = h.fit;
               order = omega arith;
               begins = omega (arith, h.begins, h.order);
               within = omega (arith, record-inside s i 1 n (flat (ts ∷ gs) ++ behind s at t) use-head);
@@ -280,13 +284,13 @@ module _ {s u o : List ℕ} {at lim : ℕ} {t : Term} where
             }
 
         -- No room for it: none for the whole.
-        use-full : lim < pos + length (piece s u from i) → lim < 0 + length (copied 0 u t)
+        use-full : length o < pos + length (piece s u from i) → length o < 0 + length (copied 0 u t)
         use-full m =
             omega (arith, ap length use-all, length-append (done ++ piece s u from i) (copies u (ts ∷ gs)), length-append done (piece s u from i), h.pos-is)
 
   -- A leaf is left behind: abstractions that end there are closed.
-  shut : (out st : List ℕ) (i from need depth pos : ℕ) (ts : List Term) (gs : List (List Term)) (done : List ℕ) (d : ℕ) → Stage s u o at lim t out st i from need depth pos (ts ∷ gs) done → d ≡ closed st need depth
-      → Going s u o at lim t out st i from need d pos
+  shut : (out st : List ℕ) (i from need depth pos : ℕ) (ts : List Term) (gs : List (List Term)) (done : List ℕ) (d : ℕ) → Stage s u o at t out st i from need depth pos (ts ∷ gs) done → d ≡ closed st need depth
+      → Going s u o at t out st i from need d pos
   shut out st i from need depth pos ts gs done d h q =
       let c = close st u ts gs h.stack in
       let a : depth ≡ length gs = omega (arith, h.depth_is) in
@@ -305,7 +309,6 @@ module _ {s u o : List ℕ} {at lim : ℕ} {t : Term} where
           all = rw c.same-copies h.all;
           stack = c.stack;
           room = h.room;
-          fit = h.fit;
           order = h.order;
           begins = h.begins;
           within = h.within;
@@ -319,9 +322,9 @@ module _ {s u o : List ℕ} {at lim : ℕ} {t : Term} where
 
   -- ---- by the code's tests
 
-  module _ {out st : List ℕ} {i from need depth pos : ℕ} (h : Going s u o at lim t out st i from need depth pos) where
+  module _ {out st : List ℕ} {i from need depth pos : ℕ} (h : Going s u o at t out st i from need depth pos) where
     abbrev Now : List (List Term) → Type 0
-    Now gs = Stage s u o at lim t out st i from need depth pos gs h.done
+    Now gs = Stage s u o at t out st i from need depth pos gs h.done
 
     -- A term is to come: the first group has one.
     split : (P : Type 0) → 0 < need → ((x : Term) (ts : List Term) (gs : List (List Term)) → Now ((x ∷ ts) ∷ gs) → P) → P
@@ -347,7 +350,7 @@ module _ {s u o : List ℕ} {at lim : ℕ} {t : Term} where
 
     module _ (l : 0 < need) where
       lam-is : (st' : List ℕ) → st' ≡ set st depth (need - 1) → kind_at s i ≡ 4 → (x : Term) (ts : List Term) (gs : List (List Term)) → Now ((x ∷ ts) ∷ gs)
-          → Going s u o at lim t out st' (i + 1) from need (depth + 1) pos
+          → Going s u o at t out st' (i + 1) from need (depth + 1) pos
       lam-is st' q k (var n) ts gs a = absurd (omega (arith, kind-is (var n) ts gs a))
       lam-is st' q k (fun n) ts gs a = absurd (omega (arith, kind-is (fun n) ts gs a))
       lam-is st' q k (con n) ts gs a = absurd (omega (arith, kind-is (con n) ts gs a))
@@ -359,11 +362,11 @@ module _ {s u o : List ℕ} {at lim : ℕ} {t : Term} where
       lam-is st' q k (branch z x y) ts gs a = absurd (omega (arith, kind-is (branch z x y) ts gs a))
 
       -- An abstraction.
-      pub of-lam : kind_at s i ≡ 4 → (st' : List ℕ) → st' ≡ set st depth (need - 1) → Going s u o at lim t out st' (i + 1) from need (depth + 1) pos
-      of-lam k st' q = split (Going s u o at lim t out st' (i + 1) from need (depth + 1) pos) l (lam-is st' q k)
+      pub of-lam : kind_at s i ≡ 4 → (st' : List ℕ) → st' ≡ set st depth (need - 1) → Going s u o at t out st' (i + 1) from need (depth + 1) pos
+      of-lam k st' q = split (Going s u o at t out st' (i + 1) from need (depth + 1) pos) l (lam-is st' q k)
 
       module _ (m : ℕ) (h5 : 5 ≤ kind_at s i) (e : m ≡ more (kind_at s i)) where
-        more-is : (x : Term) (ts : List Term) (gs : List (List Term)) → Now ((x ∷ ts) ∷ gs) → Going s u o at lim t out st (i + 1) from (need + m) depth pos
+        more-is : (x : Term) (ts : List Term) (gs : List (List Term)) → Now ((x ∷ ts) ∷ gs) → Going s u o at t out st (i + 1) from (need + m) depth pos
         more-is (var n) ts gs a = absurd (omega (arith, kind-is (var n) ts gs a))
         more-is (fun n) ts gs a = absurd (omega (arith, kind-is (fun n) ts gs a))
         more-is (con n) ts gs a = absurd (omega (arith, kind-is (con n) ts gs a))
@@ -382,8 +385,8 @@ module _ {s u o : List ℕ} {at lim : ℕ} {t : Term} where
             rw (e ∙ ap more (kind-is (branch z x y) ts gs a)) (record { groups = (z ∷ (x ∷ (y ∷ ts))) ∷ gs; done = h.done; here = at-branch z x y ts gs a; first = tt })
 
         -- An application, a sum or a branch.
-        pub of-more : Going s u o at lim t out st (i + 1) from (need + m) depth pos
-        of-more = split (Going s u o at lim t out st (i + 1) from (need + m) depth pos) l more-is
+        pub of-more : Going s u o at t out st (i + 1) from (need + m) depth pos
+        of-more = split (Going s u o at t out st (i + 1) from (need + m) depth pos) l more-is
 
       -- A kind that is none of a leaf's, an abstraction's and an application's is a sum's or a branch's.
       later-is : 6 ≤ kind_at s i → (x : Term) (ts : List Term) (gs : List (List Term)) → Now ((x ∷ ts) ∷ gs) → (9 ≤ kind_at s i) × (kind_at s i ≤ 10)
@@ -401,7 +404,7 @@ module _ {s u o : List ℕ} {at lim : ℕ} {t : Term} where
       later k = split ((9 ≤ kind_at s i) × (kind_at s i ≤ 10)) l (later-is k)
 
       module _ (k : kind_at s i ≤ 3) (w : record_number s i ≡ depth → kind_at s i ≡ 1 → ⊥) (d : ℕ) (q : d ≡ closed st (need - 1) depth) where
-        kept-is : (x : Term) (ts : List Term) (gs : List (List Term)) → Now ((x ∷ ts) ∷ gs) → Going s u o at lim t out st (i + 1) from (need - 1) d pos
+        kept-is : (x : Term) (ts : List Term) (gs : List (List Term)) → Now ((x ∷ ts) ∷ gs) → Going s u o at t out st (i + 1) from (need - 1) d pos
         kept-is (var n) ts gs a =
             let m = number_is n ts gs a in
             let z : n ≡ length gs → ⊥ = λ e. w (omega (arith, a.depth_is)) (kind-is (var n) ts gs a) in
@@ -416,8 +419,8 @@ module _ {s u o : List ℕ} {at lim : ℕ} {t : Term} where
         kept-is (branch z x y) ts gs a = absurd (omega (arith, kind-is (branch z x y) ts gs a))
 
         -- A leaf that is no use.
-        pub of-kept : Going s u o at lim t out st (i + 1) from (need - 1) d pos
-        of-kept = split (Going s u o at lim t out st (i + 1) from (need - 1) d pos) l kept-is
+        pub of-kept : Going s u o at t out st (i + 1) from (need - 1) d pos
+        of-kept = split (Going s u o at t out st (i + 1) from (need - 1) d pos) l kept-is
 
       module _ (w : (record_number s i ≡ depth) × (kind_at s i ≡ 1)) where
         used : (P : Type 0) → ((n : ℕ) (ts : List Term) (gs : List (List Term)) → Now ((var n ∷ ts) ∷ gs) → n ≡ depth → P) → P
@@ -435,15 +438,15 @@ module _ {s u o : List ℕ} {at lim : ℕ} {t : Term} where
             by (branch z x y) ts gs a = absurd (omega (arith, kind-is (branch z x y) ts gs a))
 
         -- A use.
-        pub of-use : (out' : List ℕ) (q : ℕ) → out' ≡ put out pos (piece s u from i) → q ≡ pos + length (piece s u from i) → q ≤ lim
-            → (d : ℕ) → d ≡ closed st (need - 1) depth → Going s u o at lim t out' st (i + 1) (i + 1) (need - 1) d q
+        pub of-use : (out' : List ℕ) (q : ℕ) → out' ≡ put out pos (piece s u from i) → q ≡ pos + length (piece s u from i) → q ≤ length o
+            → (d : ℕ) → d ≡ closed st (need - 1) depth → Going s u o at t out' st (i + 1) (i + 1) (need - 1) d q
         of-use out' q p m r d e =
-            used (Going s u o at lim t out' st (i + 1) (i + 1) (need - 1) d q)
+            used (Going s u o at t out' st (i + 1) (i + 1) (need - 1) d q)
             (λ n ts gs a v. shut out' st (i + 1) (i + 1) (need - 1) depth q ts gs (h.done ++ piece s u from i) d (at-use n ts gs a v out' q p m r) e)
 
         -- A use with no room for it.
-        pub of-full : lim < pos + length (piece s u from i) → lim < 0 + length (copied 0 u t)
-        of-full m = used (lim < 0 + length (copied 0 u t)) (λ n ts gs a v. use-full n ts gs a v m)
+        pub of-full : length o < pos + length (piece s u from i) → length o < 0 + length (copied 0 u t)
+        of-full m = used (length o < 0 + length (copied 0 u t)) (λ n ts gs a v. use-full n ts gs a v m)
 
     -- No term is to come: what was passed and not yet written is all that is left.
     ended : need ≤ 0 → h.done ++ passed s from i ≡ copied 0 u t
@@ -455,25 +458,25 @@ module _ {s u o : List ℕ} {at lim : ℕ} {t : Term} where
         by ([] ∷ (g ∷ gs)) a o = absurd o
         by ((x ∷ ts) ∷ gs) a o = absurd (omega (arith, a.need-is))
 
-    pub of_end : need ≤ 0 → (r : Substituted) (out' : List ℕ) → WrittenIs (passed s from i) lim out pos r out' → length out ≡ length o → WrittenIs (copied 0 u t) lim o 0 r out'
-    of_end z (Done q) out' g k =
+    pub of_end : need ≤ 0 → (r : Option ℕ) (out' : List ℕ) → WrittenIs (passed s from i) out pos r out' → length out ≡ length o → WrittenIs (copied 0 u t) o 0 r out'
+    of_end z (Some q) out' g k =
         let e = ended z in
         let a = h.here in
         let p : pos ≡ 0 + length h.done = omega (arith, a.pos-is) in
         let w : List ℕ = passed s from i in (
           omega (arith, ap length e, length-append h.done w),
-          g.1,
-          g.2 ∙ ap₂ (λ (x : List ℕ) (y : ℕ). put x y w) a.out-is p ∙ put-put o 0 h.done (omega (arith, a.room, a.fit)) w ∙ ap (put o 0) e,
+          omega (arith, g.1, k),
+          g.2 ∙ ap₂ (λ (x : List ℕ) (y : ℕ). put x y w) a.out-is p ∙ put-put o 0 h.done (omega (arith, a.room)) w ∙ ap (put o 0) e,
         )
-    of_end z Full out' g k =
+    of_end z None out' g k =
         let e = ended z in
         (omega (arith, ap length e, length-append h.done (passed s from i), h.here.pos-is), g.1 ∙ k)
 
   -- The loop begins.
-  pub started : (st : List ℕ) → Lies s at t → Fits t → lim ≤ length o → 1024 ≤ length st → Going s u o at lim t o st at at 1 0 0
-  started st h f g k =
+  pub started : (st : List ℕ) → Lies s at t → Fits t → 1024 ≤ length st → Going s u o at t o st at at 1 0 0
+  started st h f k =
       let p = records-some t in
-      let none : 8 * (at - at) ≡ 0 = omega arith in
+      let none : 8 * at - 8 * at ≡ 0 = omega arith in
       let b : 8 * (at + records t) ≤ length s =
       omega (arith, ap length h.bytes, length-drop (8 * at) s, length-append (encode t) (behind s at t), encode-length t, length-drop (8 * (at + records t)) s) in
       record {
@@ -489,7 +492,6 @@ module _ {s u o : List ℕ} {at lim : ℕ} {t : Term} where
           all = rw (none, part_none s (8 * at)) (append-nil (copied 0 u t ++ []) ∙ append-nil (copied 0 u t));
           stack = (tt, tt);
           room = omega arith;
-          fit = g;
           order = omega arith;
           begins = omega arith;
           within = omega arith;

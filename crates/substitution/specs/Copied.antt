@@ -1,12 +1,10 @@
 -- The copy of a term with bytes in the place of a variable, and what an answer says of it. Assumes nothing.
-use Rattle.std.specs.Prelude.{cond, List, [], ◌++◌, ◌≡◌, ℕ, suc, ◌+◌, ◌*◌, ◌<◌, ◌≤◌, eqb, length, drop}
+use Rattle.std.specs.Prelude.{cond, List, [], ◌++◌, ◌≡◌, ℕ, suc, ◌+◌, ◌*◌, ◌<◌, ◌≤◌, eqb, length, drop, Option, Some, None}
 use Rattle.words.specs.Put.{put}
 use Rattle.calculus.specs.Term.{Term, records, Bare}
 use Rattle.calculus.specs.Term.Term.{var, fun, con, lam, app, call_event, emit, sum, branch}
 use Rattle.terms.specs.Record.{record8}
 use Rattle.terms.specs.Encode.{encode}
-use Rattle.substitution.specs.declared.Substituted.{Substituted}
-use Rattle.substitution.specs.declared.Substituted.TheVariants.{Done, Full}
 
 -- A term's bytes with the bytes u for variable d; each abstraction on the way counts one more.
 abbrev pub copied : ℕ → List ℕ → Term → List ℕ
@@ -26,8 +24,8 @@ pub record Lies (s : List ℕ) (at : ℕ) (t : Term) : Type 0 where
   pub bare : Bare t
   pub few : records t ≤ 1024
 
--- What an answer says of the bytes w, to be written to o from byte p on: Done and the byte after them, or Full exactly where they go past the
--- limit. Where Full is answered o' has any bytes.
-abbrev pub WrittenIs : List ℕ → ℕ → List ℕ → ℕ → Substituted → List ℕ → Type 0
-WrittenIs w limit o p (Done q) o' = (q ≡ p + length w) × (q ≤ limit) × (o' ≡ put o p w)
-WrittenIs w limit o p Full o' = (limit < p + length w) × (length o' ≡ length o)
+-- What an answer says of the bytes w, to be written to o from byte p on: the byte after them, or nothing exactly where they go past o's end.
+-- Where nothing is answered o' has any bytes.
+abbrev pub WrittenIs : List ℕ → List ℕ → ℕ → Option ℕ → List ℕ → Type 0
+WrittenIs w o p (Some q) o' = (q ≡ p + length w) × (q ≤ length o) × (o' ≡ put o p w)
+WrittenIs w o p None o' = (length o < p + length w) × (length o' ≡ length o)

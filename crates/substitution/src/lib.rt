@@ -2,24 +2,12 @@
 // the variable is moved in one run.
 #![tactic(auto)]
 
-ghost use Rattle.std.specs.Prelude.{◌&&◌, ◌≡◌, ◌++◌, ◌+◌, ◌-◌, ◌*◌, ◌≤◌, ◌<◌, eqb, length};
-ghost use Rattle.words.specs.Bytes.{part};
+ghost use Rattle.std.specs.Prelude.{◌&&◌, ◌≡◌, ◌≤◌, eqb, length};
 ghost use Rattle.terms.specs.Read.{term_at};
 ghost use Rattle.substitution.specs.Copied.{copied, Lies, WrittenIs};
 ghost use Rattle.substitution.specs.Stack.{closed};
 
-// The byte after what was written, or that it would go past the limit.
-#[derive(Clone, Copy)]
-pub enum Substituted {
-    Done(usize),
-    Full,
-}
-
-fn wide(x: u16) -> usize
-    ensures { result ≡ x }
-{
-    x as usize
-}
+use words::Number;
 
 // Whether a record is the variable that is replaced.
 fn is_use(kind: u8, number: u32, depth: usize) -> bool
@@ -33,76 +21,39 @@ fn close_ended(st: &[u16], need: usize, depth: usize) -> usize
     requires { depth ≤ length st.now }
     ensures { result ≡ closed st.now need depth }
 {
-    let mut d = depth;
-    while 0 < d {
-        if wide(st[d - 1]) == need {
-            d -= 1;
-        } else {
-            return d;
+    for d in (0..depth).rev() {
+        if usize::from(st[d]) != need {
+            return d + 1;
         }
     }
-    d
+    0
 }
 
-// Writes the records from..i.
-fn put_run(s: &[u8], from: usize, i: usize, out: &mut [u8], pos: usize, limit: usize) -> Substituted
-    requires from_le_i { from ≤ i }
-    requires i_in_bounds { 8 * i ≤ length s.now }
-    requires pos_le_limit { pos ≤ limit }
-    requires limit_in_bounds { limit ≤ length out.old }
-    ensures { WrittenIs (part s.now (8 * from) (8 * (i - from))) limit out.old pos result out.new }
+// Writes bytes from byte pos on and says where they end, if there is room.
+fn put(out: &mut [u8], pos: usize, bytes: &[u8]) -> Option<usize>
+    requires { pos ≤ length out.old }
+    ensures { WrittenIs bytes.now out.old pos result out.new }
 {
-    let n = 8 * (i - from);
-    if limit - pos < n {
-        return Substituted::Full;
+    let n = bytes.len();
+    if out.len() - pos < n {
+        return None;
     }
-    words::copy(out, pos, s, 8 * from, n);
-    Substituted::Done(pos + n)
-}
-
-// Writes the records from..i and then the value.
-fn put_use(
-    s: &[u8],
-    from: usize,
-    i: usize,
-    u: &[u8],
-    out: &mut [u8],
-    pos: usize,
-    limit: usize,
-) -> Substituted
-    requires from_le_i { from ≤ i }
-    requires i_in_bounds { 8 * i ≤ length s.now }
-    requires pos_le_limit { pos ≤ limit }
-    requires limit_in_bounds { limit ≤ length out.old }
-    ensures { WrittenIs (part s.now (8 * from) (8 * (i - from)) ++ u.now) limit out.old pos result out.new }
-{
-    match put_run(s, from, i, out, pos, limit) {
-        Substituted::Done(q) => {
-            if limit - q < u.len() {
-                return Substituted::Full;
-            }
-            words::copy(out, q, u, 0, u.len());
-            Substituted::Done(q + u.len())
-        }
-        Substituted::Full => Substituted::Full,
+    // One record, as most arguments are, is copied as a number, and nothing, as between two uses side by side, without a loop.
+    match n {
+        0 => {}
+        8 => u64::read(bytes, 0).write(out, pos),
+        _ => words::copy(out, pos, bytes, 0, n),
     }
+    Some(pos + n)
 }
 
 // Copies the term at record `at` of s to the start of out, with the bytes u for each variable whose number is the count of the term's
-// abstractions open around it. The records from..i are passed and not yet written, `need` terms are to come, and st[j] is what `need` will
-// be where abstraction j ends.
-pub fn substitute(
-    s: &[u8],
-    at: usize,
-    u: &[u8],
-    out: &mut [u8],
-    st: &mut [u16],
-    limit: usize,
-) -> Substituted
+// abstractions open around it, and says where the copy ends, if out has room for it. The records from..i are passed and not yet written, `need`
+// terms are to come, and st[j] is what `need` will be where abstraction j ends.
+pub fn substitute(s: &[u8], at: usize, u: &[u8], out: &mut [u8], st: &mut [u16]) -> Option<usize>
     requires lies { Lies s.now at (term_at s.now at) }
-    requires limit_in_bounds { limit ≤ length out.old }
-    requires in_bounds { 1024 ≤ length st.old }
-    ensures { WrittenIs (copied 0 u.now (term_at s.now at)) limit out.old 0 result out.new }
+    requires stack_room { 1024 ≤ length st.old }
+    ensures { WrittenIs (copied 0 u.now (term_at s.now at)) out.old 0 result out.new }
 {
     let mut i = at;
     let mut from = at;
@@ -133,15 +84,13 @@ pub fn substitute(
             }
         }
         if 0 < need {
-            let Substituted::Done(q) = put_use(s, from, i, u, out, pos, limit) else {
-                return Substituted::Full;
-            };
-            pos = q;
+            let end = put(out, pos, &s[8 * from..8 * i])?;
+            pos = put(out, end, u)?;
             from = i + 1;
             need -= 1;
             depth = close_ended(st, need, depth);
             i += 1;
         }
     }
-    put_run(s, from, i, out, pos, limit)
+    put(out, pos, &s[8 * from..8 * i])
 }

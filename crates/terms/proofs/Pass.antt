@@ -5,17 +5,16 @@ use Prim.Native.Nat.{ℕ, zero, suc, ◌+◌, ◌-◌, ◌<◌, ◌≤◌}
 use native.Mathlib.Numerals.{add-one}
 use native.Mathlib.Decide.{ℕ_discrete, dec_lt}
 use native.Mathlib.Omega.{arith}
+use Rattle.std.specs.Prelude.{Option, Some, None, option_and_then}
 use Rattle.calculus.specs.Term.{Term}
 use Rattle.calculus.specs.Term.Term.{branch}
 use Rattle.terms.specs.Record.{count, kind_at, record_number, arity_of}
 use Rattle.terms.specs.Read.{Read, pair_term, under_one, under_two, and_then, then_two, read_at}
 use Rattle.terms.specs.Read.Read.{got, stuck}
 use Rattle.terms.specs.Read.Laws.{arity-sum, arity-three, Beyond, beyond, left-ind, read_past, read_none, read-leaf, read_one, read-two, read-three}
-use Rattle.terms.specs.Walk.{passed_of, pass_term, then_pass, many, pass_subterms}
+use Rattle.terms.specs.Walk.{passed_of, pass_term, many, pass_subterms}
 use Rattle.terms.specs.declared.Arity.{Arity}
 use Rattle.terms.specs.declared.Arity.TheVariants.{NoTerm, Leaf, One, Two, Three}
-use Rattle.terms.specs.declared.Passed.{Passed}
-use Rattle.terms.specs.declared.Passed.TheVariants.{Next, Nothing}
 use Rattle.terms.proofs.Stands.{read-within}
 
 -- ---- one term
@@ -28,41 +27,41 @@ two-passed : (f : Term → Term) (r : Read) → passed_of (under_two f r) ≡ pa
 two-passed f (got t j) = refl
 two-passed f (stuck j) = refl
 
-then-passed : (f : Term → Term → Term) (r : Read) (go : ℕ → Read) → passed_of (and_then f r go) ≡ then_pass (passed_of r) (λ j. passed_of (go j))
+then-passed : (f : Term → Term → Term) (r : Read) (go : ℕ → Read) → passed_of (and_then f r go) ≡ option_and_then (λ j. passed_of (go j)) (passed_of r)
 then-passed f (got a j) go = two-passed (f a) (go j)
 then-passed f (stuck j) go = refl
 
-three-passed : (r : Read) (go : ℕ → Read) → passed_of (then_two r go) ≡ then_pass (passed_of r) (λ j. then_pass (passed_of (go j)) (λ l. passed_of (go l)))
+three-passed : (r : Read) (go : ℕ → Read) → passed_of (then_two r go) ≡ option_and_then (λ j. option_and_then (λ l. passed_of (go l)) (passed_of (go j))) (passed_of r)
 three-passed (got c j) go = then-passed (branch c) (go j) go
 three-passed (stuck j) go = refl
 
-passed-got : (r : Read) (j : ℕ) → passed_of r ≡ Next j → (t : Term) × (r ≡ got t j)
+passed-got : (r : Read) (j : ℕ) → passed_of r ≡ Some j → (t : Term) × (r ≡ got t j)
 passed-got (got t k) j e = let q : k ≡ j = cc in (t, ap (got t) q)
 passed-got (stuck k) j e = let z : ◌≡◌ {A = ℕ} 0 1 = cc in absurd (omega arith)
 
 module _ (s : List ℕ) (i : ℕ) where
   -- Where a term is passed, one is read.
-  pub pass-read : (j : ℕ) → pass_term s i ≡ Next j → (t : Term) × (read_at s i ≡ got t j)
+  pub pass-read : (j : ℕ) → pass_term s i ≡ Some j → (t : Term) × (read_at s i ≡ got t j)
   pass-read j e = passed-got (read_at s i) j e
 
   -- The record after a term is after the term's first, and in the file or its end.
-  pub pass-within : (j : ℕ) → pass_term s i ≡ Next j → (i < j) × (j ≤ count s)
+  pub pass-within : (j : ℕ) → pass_term s i ≡ Some j → (i < j) × (j ≤ count s)
   pass-within j e =
       let w = pass-read j e in
       let b : Beyond i (got w.0 j) = rw w.1 at (beyond s i) in
       (b, read-within s i w.0 j w.1)
 
   -- Nothing is past the end.
-  pub pass-past : count s ≤ i → pass_term s i ≡ Nothing
+  pub pass-past : count s ≤ i → pass_term s i ≡ None
   pass-past h = rw (read_past s i h)
 
   module _ (h : i < count s) where
     -- Nothing begins with a kind of no arity.
-    pub pass-none : arity_of (kind_at s i) ≡ NoTerm → pass_term s i ≡ Nothing
+    pub pass-none : arity_of (kind_at s i) ≡ NoTerm → pass_term s i ≡ None
     pass-none e = rw (read_none s i h e)
 
     -- A leaf is passed at once.
-    pub pass-leaf : arity_of (kind_at s i) ≡ Leaf → pass_term s i ≡ Next (i + 1)
+    pub pass-leaf : arity_of (kind_at s i) ≡ Leaf → pass_term s i ≡ Some (i + 1)
     pass-leaf e = rw (read-leaf s i h e)
 
     -- An abstraction is passed by its body.
@@ -70,26 +69,26 @@ module _ (s : List ℕ) (i : ℕ) where
     pass-one e = rw (read_one s i h e) (one-passed (record_number s i) (read_at s (i + 1)))
 
     -- A pair is passed by its two terms.
-    pub pass-two : arity_of (kind_at s i) ≡ Two → pass_term s i ≡ then_pass (pass_term s (i + 1)) (pass_term s)
+    pub pass-two : arity_of (kind_at s i) ≡ Two → pass_term s i ≡ option_and_then (pass_term s) (pass_term s (i + 1))
     pass-two e = rw (read-two s i h e) (then-passed (pair_term (kind_at s i) (record_number s i)) (read_at s (i + 1)) (read_at s))
 
     -- A branch is passed by its three terms.
-    pub pass-three : arity_of (kind_at s i) ≡ Three → pass_term s i ≡ then_pass (pass_term s (i + 1)) (λ j. then_pass (pass_term s j) (pass_term s))
+    pub pass-three : arity_of (kind_at s i) ≡ Three → pass_term s i ≡ option_and_then (λ j. option_and_then (pass_term s) (pass_term s j)) (pass_term s (i + 1))
     pass-three e = rw (read-three s i h e) (three-passed (read_at s (i + 1)) (read_at s))
 
 -- ---- by the kinds alone
 
 -- of terms further on than i
-then-alike : (s s' : List ℕ) (i j : ℕ) → i < j → (w : Passed) → pass_term s j ≡ w → ((k : ℕ) → i < k → pass_term s k ≡ pass_term s' k) → then_pass w (pass_term s) ≡ then_pass w (pass_term s')
-then-alike s s' i j l (Next k) e h = let b = (pass-within s j k e).0 in h k (omega arith)
-then-alike s s' i j l Nothing e h = refl
+then-alike : (s s' : List ℕ) (i j : ℕ) → i < j → (w : Option ℕ) → pass_term s j ≡ w → ((k : ℕ) → i < k → pass_term s k ≡ pass_term s' k) → option_and_then (pass_term s) w ≡ option_and_then (pass_term s') w
+then-alike s s' i j l (Some k) e h = let b = (pass-within s j k e).0 in h k (omega arith)
+then-alike s s' i j l None e h = refl
 
-three-alike : (s s' : List ℕ) (i : ℕ) (w : Passed) → pass_term s (i + 1) ≡ w → ((j : ℕ) → i < j → pass_term s j ≡ pass_term s' j)
-    → then_pass w (λ j. then_pass (pass_term s j) (pass_term s)) ≡ then_pass w (λ j. then_pass (pass_term s' j) (pass_term s'))
-three-alike s s' i (Next j) e h =
+three-alike : (s s' : List ℕ) (i : ℕ) (w : Option ℕ) → pass_term s (i + 1) ≡ w → ((j : ℕ) → i < j → pass_term s j ≡ pass_term s' j)
+    → option_and_then (λ j. option_and_then (pass_term s) (pass_term s j)) w ≡ option_and_then (λ j. option_and_then (pass_term s') (pass_term s' j)) w
+three-alike s s' i (Some j) e h =
     let b = (pass-within s (i + 1) j e).0 in
-    then-alike s s' i j (omega arith) (pass_term s j) refl h ∙ ap (λ (w : Passed). then_pass w (pass_term s')) (h j (omega arith))
-three-alike s s' i Nothing e h = refl
+    then-alike s s' i j (omega arith) (pass_term s j) refl h ∙ ap (λ (w : Option ℕ). option_and_then (pass_term s') w) (h j (omega arith))
+three-alike s s' i None e h = refl
 
 module _ (s s' : List ℕ) (i : ℕ) (h : i < count s) (h' : i < count s') where
   alike : (a : Arity) → arity_of (kind_at s i) ≡ a → arity_of (kind_at s' i) ≡ a → ((j : ℕ) → i < j → pass_term s j ≡ pass_term s' j) → pass_term s i ≡ pass_term s' i
@@ -99,12 +98,12 @@ module _ (s s' : List ℕ) (i : ℕ) (h : i < count s) (h' : i < count s') where
   alike Two e f ih =
       pass-two s i h e
       ∙ then-alike s s' i (i + 1) (omega arith) (pass_term s (i + 1)) refl ih
-      ∙ ap (λ (w : Passed). then_pass w (pass_term s')) (ih (i + 1) (omega arith))
+      ∙ ap (λ (w : Option ℕ). option_and_then (pass_term s') w) (ih (i + 1) (omega arith))
       ∙ sym (pass-two s' i h' f)
   alike Three e f ih =
       pass-three s i h e
       ∙ three-alike s s' i (pass_term s (i + 1)) refl ih
-      ∙ ap (λ (w : Passed). then_pass w (λ j. then_pass (pass_term s' j) (pass_term s'))) (ih (i + 1) (omega arith))
+      ∙ ap (λ (w : Option ℕ). option_and_then (λ j. option_and_then (pass_term s') (pass_term s' j)) w) (ih (i + 1) (omega arith))
       ∙ sym (pass-three s' i h' f)
 
 -- Files of the same kinds are passed alike.
@@ -116,17 +115,17 @@ kinds-alone s s' n e =
 
 -- ---- several terms in a row
 
-then_next : (w : Passed) → then_pass w Next ≡ w
-then_next (Next j) = refl
-then_next Nothing = refl
+then_next : (w : Option ℕ) → option_and_then Some w ≡ w
+then_next (Some j) = refl
+then_next None = refl
 
-then-then : (w : Passed) (f g : ℕ → Passed) → then_pass (then_pass w f) g ≡ then_pass w (λ j. then_pass (f j) g)
-then-then (Next j) f g = refl
-then-then Nothing f g = refl
+then-then : (w : Option ℕ) (f g : ℕ → Option ℕ) → option_and_then g (option_and_then f w) ≡ option_and_then (λ j. option_and_then g (f j)) w
+then-then (Some j) f g = refl
+then-then None f g = refl
 
-then-cong : (w : Passed) (f g : ℕ → Passed) → ((j : ℕ) → f j ≡ g j) → then_pass w f ≡ then_pass w g
-then-cong (Next j) f g h = h j
-then-cong Nothing f g h = refl
+then-cong : (w : Option ℕ) (f g : ℕ → Option ℕ) → ((j : ℕ) → f j ≡ g j) → option_and_then f w ≡ option_and_then g w
+then-cong (Some j) f g h = h j
+then-cong None f g h = refl
 
 module _ (s : List ℕ) (i : ℕ) where
   -- One term is wanted at first.
@@ -135,27 +134,27 @@ module _ (s : List ℕ) (i : ℕ) where
   many-one = then_next (pass_term s i)
 
   -- With none wanted the record is reached.
-  pub many-none : (n : ℕ) → n ≡ 0 → many n s i ≡ Next i
+  pub many-none : (n : ℕ) → n ≡ 0 → many n s i ≡ Some i
   unfolding many
   many-none n e = rw e
 
   -- A turn of the loop past the end.
-  pub many-past : (n : ℕ) → 0 < n → count s ≤ i → many n s i ≡ Nothing
+  pub many-past : (n : ℕ) → 0 < n → count s ≤ i → many n s i ≡ None
   unfolding many
   many-past zero p h = absurd (omega arith)
   many-past (suc n) p h = rw (pass-past s i h)
 
   -- Where terms in a row are passed, there is a record.
-  pub many-inside : (n : ℕ) → 0 < n → (j : ℕ) → many n s i ≡ Next j → i < count s
+  pub many-inside : (n : ℕ) → 0 < n → (j : ℕ) → many n s i ≡ Some j → i < count s
   many-inside n p j e = on (dec_lt i (count s))
     where
       on : Dec (i < count s) → i < count s
       on (yes h) = h
-      on (no h) = let q : Nothing ≡ Next j = sym (many-past n p (omega arith)) ∙ e in let z : ◌≡◌ {A = ℕ} 0 1 = cc in absurd (omega arith)
+      on (no h) = let q : None ≡ Some j = sym (many-past n p (omega arith)) ∙ e in let z : ◌≡◌ {A = ℕ} 0 1 = cc in absurd (omega arith)
 
   module _ (h : i < count s) where
     -- A turn at a record that begins no term.
-    pub many_stuck : (n : ℕ) → 0 < n → arity_of (kind_at s i) ≡ NoTerm → many n s i ≡ Nothing
+    pub many_stuck : (n : ℕ) → 0 < n → arity_of (kind_at s i) ≡ NoTerm → many n s i ≡ None
     unfolding many
     many_stuck zero p e = absurd (omega arith)
     many_stuck (suc n) p e = rw (pass-none s i h e)
@@ -185,8 +184,8 @@ module _ (s : List ℕ) (i : ℕ) where
     many-three (suc n) p e =
         let q : suc n + 2 ≡ suc (suc (suc n)) = omega arith in
         rw (q, pass-three s i h e)
-        (then-then (pass_term s (i + 1)) (λ j. then_pass (pass_term s j) (pass_term s)) (many n s)
-        ∙ then-cong (pass_term s (i + 1)) (λ j. then_pass (then_pass (pass_term s j) (pass_term s)) (many n s)) (λ j. then_pass (pass_term s j) (λ l. then_pass (pass_term s l) (many n s))) (λ j. then-then (pass_term s j) (pass_term s) (many n s)))
+        (then-then (pass_term s (i + 1)) (λ j. option_and_then (pass_term s) (pass_term s j)) (many n s)
+        ∙ then-cong (pass_term s (i + 1)) (λ j. option_and_then (many n s) (option_and_then (pass_term s) (pass_term s j))) (λ j. option_and_then (λ l. option_and_then (many n s) (pass_term s l)) (pass_term s j)) (λ j. then-then (pass_term s j) (pass_term s) (many n s)))
 
     -- At a sum one more, at a branch two.
     pub many-later : (n : ℕ) → 0 < n → 9 ≤ kind_at s i → kind_at s i ≤ 10 → (m : ℕ) → m ≡ kind_at s i - 8 → many n s i ≡ many (n + m) s (i + 1)

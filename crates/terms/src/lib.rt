@@ -2,11 +2,13 @@
 #![tactic(auto)]
 
 ghost use Rattle.std.specs.Prelude.{◌≡◌, ◌+◌, ◌-◌, ◌^◌, ◌<◌, ◌≤◌};
-ghost use Rattle.terms.specs.Record.{count, kind_at, record_number, arity_of, in_range};
-ghost use Rattle.terms.specs.Walk.{pass_term, walked, walked_value};
+ghost use Rattle.terms.specs.Record.{count, record_number, arity_of, in_range};
+ghost use Rattle.terms.specs.Walk.{pass_term, both_terms, walked, walked_value};
+
+use words::Number;
 
 // How many terms follow a record that begins a term.
-#[derive(Clone, Copy)]
+#[derive(Clone, Copy, PartialEq, Eq, Debug)]
 pub enum Arity {
     NoTerm,
     Leaf,
@@ -15,21 +17,27 @@ pub enum Arity {
     Three,
 }
 
-// The record after a term, or that no whole term begins there.
-#[derive(Clone, Copy)]
-pub enum Passed {
-    Next(usize),
-    Nothing,
+// The record after a term, and its first loose variable.
+#[derive(Clone, Copy, PartialEq, Eq, Debug)]
+pub struct Extent {
+    pub end: u32,
+    pub loose: Option<u32>,
 }
 
-// The record after a term and its first loose variable (or the record after it again), or where no term can go on.
-#[derive(Clone, Copy)]
-pub enum Walked {
-    Whole(u32, u32),
-    Stopped(u32),
+impl Extent {
+    // Of this term and the one after it.
+    fn then(self, next: Extent) -> Extent
+        ensures { result ≡ both_terms self next }
+    {
+        Extent {
+            end: next.end,
+            loose: self.loose.or(next.loose),
+        }
+    }
 }
 
-// The arity of a kind. Kinds 9 and 10 as a range compile to comparisons, as single kinds to a table of jumps, which is slower.
+// The arity of a kind. Kinds are matched as the bytes that they are, here and in the checks and steps above: docs/READING.md, 9, names that form.
+// Kinds 9 and 10 as a range compile to comparisons, as single kinds to a table of jumps, which is slower.
 pub fn arity_of(kind: u8) -> Arity
     ensures { result ≡ arity_of kind }
 {
@@ -37,12 +45,7 @@ pub fn arity_of(kind: u8) -> Arity
         1..=3 => Arity::Leaf,
         4 => Arity::One,
         5..=7 => Arity::Two,
-        9..=10 => {
-            if kind == 9 {
-                return Arity::Two;
-            }
-            Arity::Three
-        }
+        9..=10 => { if kind == 9 { Arity::Two } else { Arity::Three } }
         _ => Arity::NoTerm,
     }
 }
@@ -67,34 +70,32 @@ pub fn number(s: &[u8], i: usize) -> u32
     requires { i < count s.now }
     ensures { result ≡ record_number s.now i }
 {
-    words::get_u32(s, 8 * i + 4)
+    u32::read(s, 8 * i + 4)
 }
 
 // How many terms more are to come after the record of a sum, 9, or a branch, 10.
 pub fn further(kind: u8) -> usize
-    requires le_kind { 9 ≤ kind }
-    requires kind_bound { kind ≤ 10 }
+    requires from_sum { 9 ≤ kind }
+    requires to_branch { kind ≤ 10 }
     ensures { result ≡ kind - 8 }
 {
-    (kind - 8) as usize
+    usize::from(kind - 8)
 }
 
 // Passes over the term at a record: a count of the terms still wanted, so that a script of any length needs no stack. A step of a run does this,
 // so it goes by the kinds themselves: the rare ones, 9 and 10, are asked for last.
-pub fn pass_term(s: &[u8], at: usize) -> Passed
+pub fn pass_term(s: &[u8], at: usize) -> Option<usize>
     ensures { result ≡ pass_term s.now at }
 {
-    let n = s.len() / 8;
-    let mut i = at;
     let mut wanted: usize = 1;
-    while 0 < wanted {
-        if n <= i {
-            return Passed::Nothing;
-        }
+    for i in at..s.len() / 8 {
         let kind = s[8 * i];
         match kind {
             1..=3 => {
                 wanted -= 1;
+                if wanted == 0 {
+                    return Some(i + 1);
+                }
             }
             4 => {}
             5..=7 => {
@@ -104,97 +105,64 @@ pub fn pass_term(s: &[u8], at: usize) -> Passed
                 wanted += further(kind);
             }
             _ => {
-                return Passed::Nothing;
+                return None;
             }
         }
-        i += 1;
     }
-    Passed::Next(i)
+    None
 }
 
-// Walks the term at a record with so many abstractions around it.
+// Walks the term at a record with so many abstractions around it. An error is the record at which no term can go on.
 #[cycle(walk_term_walk_value)]
-pub fn walk_term(s: &[u8], at: usize, depth: u32) -> Walked
-    requires s_bound { count s.now ≤ 65536 }
-    requires at_bound { at ≤ count s.now }
-    requires at_bound_2 { depth + (count s.now - at) < 2 ^ 32 }
+pub fn walk_term(s: &[u8], at: usize, depth: u32) -> Result<Extent, u32>
+    requires short { count s.now ≤ 65536 }
+    requires inside { at ≤ count s.now }
+    requires shallow { depth + (count s.now - at) < 2 ^ 32 }
     ensures { result ≡ walked s.now depth at }
 {
     if s.len() / 8 <= at {
-        return Walked::Stopped(at as u32);
+        return Err(at as u32);
     }
     match arity_of(s[8 * at]) {
-        Arity::Two => match walk_term(s, at + 1, depth) {
-            Walked::Whole(mid, loose) => match walk_term(s, mid as usize, depth) {
-                Walked::Whole(end, later) => {
-                    if loose < mid {
-                        Walked::Whole(end, loose)
-                    } else {
-                        Walked::Whole(end, later)
-                    }
-                }
-                Walked::Stopped(place) => Walked::Stopped(place),
-            },
-            Walked::Stopped(place) => Walked::Stopped(place),
-        },
-        Arity::Three => match walk_term(s, at + 1, depth) {
-            Walked::Whole(mid, loose) => match walk_term(s, mid as usize, depth) {
-                Walked::Whole(last, middle) => match walk_term(s, last as usize, depth) {
-                    Walked::Whole(end, later) => {
-                        if loose < mid {
-                            return Walked::Whole(end, loose);
-                        }
-                        if middle < last {
-                            return Walked::Whole(end, middle);
-                        }
-                        Walked::Whole(end, later)
-                    }
-                    Walked::Stopped(place) => Walked::Stopped(place),
-                },
-                Walked::Stopped(place) => Walked::Stopped(place),
-            },
-            Walked::Stopped(place) => Walked::Stopped(place),
-        },
+        Arity::Two => {
+            let first = walk_term(s, at + 1, depth)?;
+            let second = walk_term(s, first.end as usize, depth)?;
+            Ok(first.then(second))
+        }
+        Arity::Three => {
+            let first = walk_term(s, at + 1, depth)?;
+            let second = walk_term(s, first.end as usize, depth)?;
+            let third = walk_term(s, second.end as usize, depth)?;
+            Ok(first.then(second).then(third))
+        }
         _ => walk_value(s, at, depth),
     }
 }
 
-// Walks the value at a record.
+// Walks the value at a record: a leaf, or an abstraction, whose body is a term again.
 #[cycle(walk_term_walk_value)]
-pub fn walk_value(s: &[u8], at: usize, depth: u32) -> Walked
-    requires s_bound { count s.now ≤ 65536 }
-    requires at_bound { at ≤ count s.now }
-    requires at_bound_2 { depth + (count s.now - at) < 2 ^ 32 }
+pub fn walk_value(s: &[u8], at: usize, depth: u32) -> Result<Extent, u32>
+    requires short { count s.now ≤ 65536 }
+    requires inside { at ≤ count s.now }
+    requires shallow { depth + (count s.now - at) < 2 ^ 32 }
     ensures { result ≡ walked_value s.now depth at }
 {
+    let here = at as u32;
     if s.len() / 8 <= at {
-        return Walked::Stopped(at as u32);
+        return Err(here);
     }
     let kind = s[8 * at];
     match arity_of(kind) {
-        Arity::Leaf => leaf(s, at, depth),
-        Arity::One => walk_term(s, at + 1, depth + 1),
-        Arity::Two => Walked::Stopped(at as u32),
-        Arity::Three => Walked::Stopped(at as u32),
-        Arity::NoTerm => Walked::Stopped(at as u32),
-    }
-}
-
-// Walks a variable, a function name or a constant.
-fn leaf(s: &[u8], at: usize, depth: u32) -> Walked
-    requires at_bound { at < count s.now }
-    requires s_bound { count s.now ≤ 65536 }
-    requires at_value { arity_of (kind_at s.now at) ≡ Arity.Leaf }
-    ensures { result ≡ walked s.now depth at }
-{
-    let i = at as u32;
-    if s[8 * at] == 1 {
-        if number(s, at) < depth {
-            Walked::Whole(i + 1, i + 1)
-        } else {
-            Walked::Whole(i + 1, i)
+        Arity::Leaf => {
+            let free = kind == 1 && depth <= number(s, at);
+            Ok(Extent {
+                end: here + 1,
+                loose: free.then_some(here),
+            })
         }
-    } else {
-        Walked::Whole(i + 1, i + 1)
+        Arity::One => walk_term(s, at + 1, depth + 1),
+        Arity::Two => Err(here),
+        Arity::Three => Err(here),
+        Arity::NoTerm => Err(here),
     }
 }

@@ -9,7 +9,7 @@ use Rattle.words.specs.Put.{put, put-drop, put-put, put-none}
 use Rattle.terms.specs.Record.{count, kind_at, arity_of}
 use Rattle.terms.specs.Walk.{many}
 use Rattle.terms.specs.declared.Arity.TheVariants.{NoTerm}
-use Rattle.terms.specs.declared.Passed.TheVariants.{Next, Nothing}
+use Rattle.std.specs.Prelude.{Some, None}
 use Rattle.terms.proofs.Pass.{many-one, many-none, many-inside, many_stuck}
 use Rattle.zipper.specs.Zipper.{end_at, Whole, copied_to}
 
@@ -20,37 +20,37 @@ module _ (e : List ℕ) (l r : ℕ) where
 
   pub record Copying (e' : List ℕ) (i wanted : ℕ) : Type 0 where
     pub copied : e' ≡ copied_up_to i
-    pub still : many wanted e i ≡ Next (end_at e r)
+    pub still : many wanted e i ≡ Some (end_at e r)
     pub begun : r ≤ i
     pub few : wanted ≤ 2 * (i - r) + 1
+    -- While a term is wanted, there is a record.
+    pub inside : 0 < wanted → i < count e
 
   pub started : Whole e r → Copying e r 1
   started w =
       let z : 8 * (r - r) ≡ 0 = omega arith in
+      let still : many 1 e r ≡ Some (end_at e r) = many-one e r ∙ w in
       record {
         copied = sym (ap (λ (n : ℕ). put e (8 * l) (part e (8 * r) n)) z ∙ ap (put e (8 * l)) (part_none e (8 * r)) ∙ put-none e (8 * l));
-        still = many-one e r ∙ w;
+        still = still;
         begun = omega arith;
         few = omega arith;
+        inside = λ v. many-inside e r 1 v (end_at e r) still;
       }
 
   module _ (order : l ≤ r) {e' : List ℕ} {i wanted : ℕ} (h : Copying e' i wanted) where
-    -- While a term is wanted, there is a record.
-    pub inside : 0 < wanted → i < count e
-    inside w = many-inside e i wanted w (end_at e r) h.still
-
     -- With none wanted all is copied.
     pub ended : wanted ≤ 0 → (i ≡ end_at e r) × (e' ≡ copied_to e l r)
     unfolding copied_to
     ended w =
-        let q : Next i ≡ Next (end_at e r) = sym (many-none e i wanted (omega arith)) ∙ h.still in
+        let q : Some i ≡ Some (end_at e r) = sym (many-none e i wanted (omega arith)) ∙ h.still in
         let j : i ≡ end_at e r = cc in
         (j, h.copied ∙ ap copied_up_to j)
 
     -- A record that begins no term does not occur.
     pub never : 0 < wanted → arity_of (kind_at e i) ≡ NoTerm → ⊥
     never w k =
-        let q : Nothing ≡ Next (end_at e r) = sym (many_stuck e i (inside w) wanted w k) ∙ h.still in
+        let q : None ≡ Some (end_at e r) = sym (many_stuck e i (h.inside w) wanted w k) ∙ h.still in
         let z : ◌≡◌ {A = ℕ} 0 1 = cc in omega arith
 
     module _ (in-file : i < count e) where
@@ -96,9 +96,12 @@ module _ (e : List ℕ) (l r : ℕ) where
 
         -- The loop goes on.
         pub onward : (e'' : List ℕ) → e'' ≡ put e' (8 * (l + (i - r))) (bytes 8 x) → (wanted' : ℕ) → many wanted e i ≡ many wanted' e (i + 1) → wanted' ≤ wanted + 2 → Copying e'' (i + 1) wanted'
-        onward e'' p wanted' m f = record {
-          copied = copied_on e'' p;
-          still = sym m ∙ h.still;
-          begun = omega (arith, h.begun);
-          few = omega (arith, h.begun, h.few);
-        }
+        onward e'' p wanted' m f =
+            let still : many wanted' e (i + 1) ≡ Some (end_at e r) = sym m ∙ h.still in
+            record {
+              copied = copied_on e'' p;
+              still = still;
+              begun = omega (arith, h.begun);
+              few = omega (arith, h.begun, h.few);
+              inside = λ w. many-inside e (i + 1) wanted' w (end_at e r) still;
+            }

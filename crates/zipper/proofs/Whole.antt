@@ -3,19 +3,18 @@ use mathlib.Core.Bool.{true}
 use mathlib.Core.List.{List, [], append-nil}
 use mathlib.Core.Path.{◌≡◌, sym, ap, ◌∙◌}
 use Prim.Native.Nat.{ℕ, ◌+◌}
+use Rattle.std.specs.Prelude.{unwrap_or}
 use Rattle.calculus.specs.Term.{Term, Codebase, is_value, records}
 use Rattle.calculus.specs.Step.{step}
 use Rattle.calculus.specs.Step.Next.{at_stuck}
 use Rattle.terms.specs.Read.{read_at, term_of, term_at}
 use Rattle.terms.specs.Encode.{encode}
-use Rattle.terms.specs.Walk.{passed_of, pass_term}
-use Rattle.terms.specs.declared.Passed.{Passed}
-use Rattle.terms.specs.declared.Passed.TheVariants.{Next, Nothing}
+use Rattle.terms.specs.Walk.{passed_of}
 use Rattle.terms.proofs.Stands.{Stands, stands_read}
 use Rattle.terms.proofs.Encode.{read-encode}
 use Rattle.zipper.specs.Frame.{Frame, plug}
 use Rattle.zipper.specs.Layout.{Zip}
-use Rattle.zipper.specs.Zipper.{whole_in, end_of, end_at, Whole, ZipOf, Flat, Poised, SoughtIs}
+use Rattle.zipper.specs.Zipper.{whole_in, end_at, Whole, ZipOf, Flat, Poised, SoughtIs}
 use Rattle.zipper.specs.declared.Sought.{Sought}
 use Rattle.zipper.specs.declared.Sought.TheVariants.{Value, Stuck, Redex}
 use Rattle.zipper.proofs.Parts.{bounds, together}
@@ -23,22 +22,12 @@ use Rattle.zipper.proofs.Parts.{bounds, together}
 -- A term that stands at a record ends after its records.
 pub end-there : (s : List ℕ) (i : ℕ) (t : Term) → Stands s i t → end_at s i ≡ i + records t
 unfolding end_at
-end-there s i t h = ap (λ r. end_of i (passed_of r)) (stands_read s i t h)
+end-there s i t h = ap (λ r. unwrap_or (passed_of r) i) (stands_read s i t h)
 
 -- It is a whole one.
 pub whole-there : (s : List ℕ) (i : ℕ) (t : Term) → Stands s i t → Whole s i
 unfolding end_at
 whole-there s i t h = rw (stands_read s i t h)
-
--- What passing over the term says of its end.
-module _ (s : List ℕ) (i : ℕ) {w : Passed} (e : w ≡ pass_term s i) where
-  pub end-next : (j : ℕ) → w ≡ Next j → j ≡ end_at s i
-  unfolding end_at
-  end-next j q = ap (end_of i) (sym q ∙ e)
-
-  pub end-nothing : w ≡ Nothing → i ≡ end_at s i
-  unfolding end_at
-  end-nothing q = ap (end_of i) (sym q ∙ e)
 
 -- The two parts of a zipper are the bytes of the whole.
 flat-zip : {e fs : List ℕ} {l r n : ℕ} {K : List Frame} {t T : Term} → Zip e fs l r n K t → plug K t ≡ T → Flat e l r T

@@ -1,5 +1,5 @@
 -- What the functions promise: the expression is a function of the bytes of the two parts. Assumes nothing.
-use Rattle.std.specs.Prelude.{true, cond, ◌||◌, ◌&&◌, List, ◌∷◌, ◌++◌, ◌≡◌, ℕ, ◌+◌, ◌-◌, ◌*◌, ◌<◌, ◌≤◌, eqb, leb, length, take, drop}
+use Rattle.std.specs.Prelude.{true, cond, ◌||◌, ◌&&◌, List, ◌∷◌, ◌++◌, ◌≡◌, ℕ, ◌+◌, ◌-◌, ◌*◌, ◌<◌, ◌≤◌, eqb, leb, length, take, drop, Some, unwrap_or}
 use Rattle.words.specs.Bytes.{part}
 use Rattle.words.specs.Put.{put}
 use Rattle.words.specs.Filled.{filled}
@@ -10,8 +10,6 @@ use Rattle.terms.specs.Record.{kind_at, record_number}
 use Rattle.terms.specs.Read.{term_at}
 use Rattle.terms.specs.Encode.{encode}
 use Rattle.terms.specs.Walk.{pass_term}
-use Rattle.terms.specs.declared.Passed.{Passed}
-use Rattle.terms.specs.declared.Passed.TheVariants.{Next, Nothing}
 use Rattle.zipper.specs.Frame.{Frame, fill, plug, Fires}
 use Rattle.zipper.specs.Layout.{left_size, Expression, Zip}
 use Rattle.zipper.specs.declared.Sought.{Sought}
@@ -21,18 +19,13 @@ use Rattle.zipper.specs.declared.Sought.TheVariants.{Value, Stuck, Redex}
 unfoldable pub whole_in : List ℕ → ℕ → ℕ → Term
 whole_in e l r = term_at (take (8 * l) e ++ drop (8 * r) e) 0
 
--- The record after a term that was passed; the record where it was to begin, if there is none.
-abbrev pub end_of : ℕ → Passed → ℕ
-end_of i (Next j) = j
-end_of i Nothing = i
-
--- The record after the term at record i of a file.
+-- The record after the term at record i of a file; that record, if no term begins there.
 unfoldable pub end_at : List ℕ → ℕ → ℕ
-end_at s i = end_of i (pass_term s i)
+end_at s i = unwrap_or (pass_term s i) i
 
 -- A whole term begins at record i.
 abbrev pub Whole : List ℕ → ℕ → Type 0
-Whole s i = pass_term s i ≡ Next (end_at s i)
+Whole s i = pass_term s i ≡ Some (end_at s i)
 
 -- The term at record r copied to record l.
 unfoldable pub copied_to : List ℕ → ℕ → ℕ → List ℕ

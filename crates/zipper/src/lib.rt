@@ -7,27 +7,33 @@ ghost use Rattle.terms.specs.Record.{count, kind_at, record_number};
 ghost use Rattle.terms.specs.Read.{term_at};
 ghost use Rattle.zipper.specs.Zipper.{whole_in, end_at, Whole, copied_to, ZipOf, Flat, SoughtIs, head_case, sum_case, pair_case, branch_case, Last, Loaded, Stored};
 
-use terms::Passed;
+use words::Number;
 
-// What a search finds: l and r, where the left part ends and the rest begins; at a redex also p, the record it begins with, and the count of frames.
+// What a search finds: where the left part ends, l, and the rest begins, r; at a redex also the record p that it begins with, and the count of
+// frames.
 #[derive(Clone, Copy)]
 pub enum Sought {
-    // (l, r)
-    Value(usize, usize),
-    // (l, r)
-    Stuck(usize, usize),
-    // (p, l, r, count)
-    Redex(usize, usize, usize, usize),
+    Value {
+        l: usize,
+        r: usize,
+    },
+    Stuck {
+        l: usize,
+        r: usize,
+    },
+    Redex {
+        p: usize,
+        l: usize,
+        r: usize,
+        depth: usize,
+    },
 }
 
 // The record after the term at a record, or the record itself where no term begins.
 pub fn end_of(s: &[u8], at: usize) -> usize
     ensures { result ≡ end_at s.now at }
 {
-    match terms::pass_term(s, at) {
-        Passed::Next(end) => end,
-        Passed::Nothing => at,
-    }
+    terms::pass_term(s, at).unwrap_or(at)
 }
 
 // Copies the term that ends a script to the end of the buffer: all of it is the focus.
@@ -48,8 +54,8 @@ fn at_head(e: &[u8], p: usize, l: usize, r: usize, depth: usize) -> Sought
 {
     let kind = e[8 * (p + 1)];
     match kind {
-        2 | 4 => Sought::Redex(p, l, r, depth),
-        _ => Sought::Stuck(l, r),
+        2 | 4 => Sought::Redex { p, l, r, depth },
+        _ => Sought::Stuck { l, r },
     }
 }
 
@@ -60,17 +66,17 @@ fn at_sum(e: &[u8], p: usize, l: usize, r: usize, depth: usize) -> Sought
     ensures { result ≡ sum_case (kind_at e.now (p + 1)) (kind_at e.now r) (record_number e.now (p + 1)) (record_number e.now r) p l r depth }
 {
     if e[8 * (p + 1)] != 3 {
-        return Sought::Stuck(l, r);
+        return Sought::Stuck { l, r };
     }
     if e[8 * r] != 3 {
-        return Sought::Stuck(l, r);
+        return Sought::Stuck { l, r };
     }
     let first = terms::number(e, p + 1);
     let second = terms::number(e, r);
     if first > 4294967295 - second {
-        return Sought::Stuck(l, r);
+        return Sought::Stuck { l, r };
     }
-    Sought::Redex(p, l, r, depth)
+    Sought::Redex { p, l, r, depth }
 }
 
 // The answer at two values, of an application or a sum that begins at record p.
@@ -83,7 +89,7 @@ fn at_pair(e: &[u8], p: usize, l: usize, r: usize, depth: usize) -> Sought
     match kind {
         5 => at_head(e, p, l, r, depth),
         9 => at_sum(e, p, l, r, depth),
-        _ => Sought::Stuck(l, r),
+        _ => Sought::Stuck { l, r },
     }
 }
 
@@ -92,8 +98,8 @@ fn at_branch(kind: u8, p: usize, l: usize, r: usize, depth: usize) -> Sought
     ensures { result ≡ branch_case kind p l r depth }
 {
     match kind {
-        3 => Sought::Redex(p, l, r, depth),
-        _ => Sought::Stuck(l, r),
+        3 => Sought::Redex { p, l, r, depth },
+        _ => Sought::Stuck { l, r },
     }
 }
 
@@ -106,8 +112,8 @@ fn leave(e: &mut [u8], l: usize, r: usize) -> usize
     let mut i = r;
     let mut wanted: usize = 1;
     while 0 < wanted {
-        let record = words::get_u64(e, 8 * i);
-        words::put_u64(e, 8 * (l + (i - r)), record);
+        let record = u64::read(e, 8 * i);
+        record.write(e, 8 * (l + (i - r)));
         let kind = (record % 256) as u8;
         match kind {
             1..=3 => {
@@ -142,7 +148,7 @@ pub fn seek(e: &mut [u8], frames: &mut [u16], l: usize, r: usize, count: usize) 
         match kind {
             1..=4 => {
                 if depth == 0 {
-                    return Sought::Value(left, right);
+                    return Sought::Value { l: left, r: right };
                 }
                 let entry = frames[depth - 1];
                 let p = (entry / 2) as usize;
@@ -158,14 +164,14 @@ pub fn seek(e: &mut [u8], frames: &mut [u16], l: usize, r: usize, count: usize) 
                 right = end;
             }
             5 | 9..=10 => {
-                words::put_u64(e, 8 * left, kind as u64);
+                (kind as u64).write(e, 8 * left);
                 frames[depth] = (2 * left) as u16;
                 left += 1;
                 right += 1;
                 depth += 1;
             }
             // No other kind stands in an expression.
-            _ => return Sought::Stuck(left, right),
+            _ => return Sought::Stuck { l: left, r: right },
         }
     }
 }

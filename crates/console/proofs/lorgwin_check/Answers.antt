@@ -4,4 +4,4 @@ use Rattle.answers.specs.Answers.{words_of}
 use Rattle.console.proofs.lorgwin_check.Goals as goal
 
 pub returns : goal.returns
-returns c = c.verdict_words.ensures ∙ ap words_of c.check.ensures
+returns c = c.from.ensures ∙ ap words_of c.check.ensures

@@ -2,7 +2,7 @@
 use mathlib.Core.List.{List}
 use mathlib.Core.Path.{◌≡◌, ap}
 use Prim.Native.Nat.{ℕ}
-use Rattle.refusal.specs.declared.Verdict.{Verdict}
+use Rattle.refusal.specs.Refusal.{Verdict}
 use Rattle.records.specs.Entries.{Derived, leaves}
 use Rattle.answers.specs.Answers.{words_of}
 use Rattle.console.specs.Left.{leaves_words, derived_words}
@@ -13,4 +13,4 @@ words-leave : {t : List ℕ} {v : Verdict} {w : VerdictWords} {d : Derived} → 
 words-leave e h = rw e (ap derived_words h)
 
 pub returns : goal.returns
-returns c = words-leave c.verdict_words.ensures c.derive.ensures
+returns c = words-leave c.from.ensures c.derive.ensures

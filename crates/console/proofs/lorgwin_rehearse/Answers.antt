@@ -3,7 +3,7 @@ use mathlib.Core.List.{List}
 use mathlib.Core.Path.{◌≡◌, ap}
 use Prim.Native.Nat.{ℕ}
 use Rattle.rewritten.specs.Answer as runs
-use Rattle.rewritten.specs.declared.RewrittenRun.{RewrittenRun}
+use Rattle.rewritten.specs.Answer.{RewrittenRun}
 use Rattle.rehearsal.specs.Rehearsal.{After, after}
 use Rattle.answers.specs.Answers.{rewritten_words}
 use Rattle.console.specs.Left.{logged_words, rehearses_words, rehearsal_words}
@@ -15,4 +15,4 @@ words-rehearsed q h = rw q (ap rehearsal_words h)
 
 pub returns : goal.returns
 returns c =
-    words-rehearsed c.rewritten_words.ensures c.rehearse.ensures.table_after
+    words-rehearsed c.from.ensures c.rehearse.ensures.table_after

@@ -2,8 +2,7 @@
 use mathlib.Core.List.{List}
 use mathlib.Core.Path.{◌≡◌, ap}
 use Prim.Native.Nat.{ℕ}
-use Rattle.rewriting.specs.Answer.{After, after}
-use Rattle.rewriting.specs.declared.Rewritten.{Rewritten}
+use Rattle.rewriting.specs.Answer.{Rewritten, After, after}
 use Rattle.answers.specs.Answers.{rewriting_words}
 use Rattle.console.specs.Left.{writes_words, written_words}
 use Rattle.answers.specs.declared.RewritingWords.{RewritingWords}
@@ -13,4 +12,4 @@ words-write : {o : List ℕ} {r : Rewritten} {w : RewritingWords} {a : After} �
 words-write e h = rw e (ap written_words h)
 
 pub returns : goal.returns
-returns c = words-write c.rewriting_words.ensures c.rewrite.ensures
+returns c = words-write c.from.ensures c.rewrite.ensures

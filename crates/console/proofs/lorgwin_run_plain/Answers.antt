@@ -2,8 +2,7 @@
 use mathlib.Core.List.{List}
 use mathlib.Core.Path.{◌≡◌, ap}
 use Prim.Native.Nat.{ℕ}
-use Rattle.plain.specs.Answer.{After, after}
-use Rattle.plain.specs.declared.PlainRun.{PlainRun}
+use Rattle.plain.specs.Answer.{PlainRun, After, after}
 use Rattle.answers.specs.Answers.{plain_words}
 use Rattle.console.specs.Left.{ran_words, plain_run_words}
 use Rattle.answers.specs.declared.PlainWords.{PlainWords}
@@ -13,4 +12,4 @@ words-ran : {e s : List ℕ} {r : PlainRun} {w : PlainWords} {a : After} → w �
 words-ran q h = rw q (ap plain_run_words h)
 
 pub returns : goal.returns
-returns c = words-ran c.plain_words.ensures c.plain.ensures
+returns c = words-ran c.from.ensures c.plain.ensures

@@ -2,8 +2,7 @@
 use mathlib.Core.List.{List}
 use mathlib.Core.Path.{◌≡◌, ap}
 use Prim.Native.Nat.{ℕ}
-use Rattle.rewritten.specs.Answer.{After, after}
-use Rattle.rewritten.specs.declared.RewrittenRun.{RewrittenRun}
+use Rattle.rewritten.specs.Answer.{RewrittenRun, After, after}
 use Rattle.answers.specs.Answers.{rewritten_words}
 use Rattle.console.specs.Left.{logged_words, rewritten_run_words}
 use Rattle.answers.specs.declared.RewrittenWords.{RewrittenWords}
@@ -14,4 +13,4 @@ words-logged q h = rw q (ap rewritten_run_words h)
 
 pub returns : goal.returns
 returns c =
-    words-logged c.rewritten_words.ensures c.rewritten.ensures
+    words-logged c.from.ensures c.rewritten.ensures

@@ -4,4 +4,4 @@ use Rattle.machine.proofs.add.Goals as goal
 
 pub returns : goal.returns
 returns c =
-    summed-is _ _ _ _ _ c.number.ensures c.number-2.ensures _ c.put_u32.ensures
+    summed-is _ _ _ _ _ c.number.ensures c.number-2.ensures _ c.write.ensures

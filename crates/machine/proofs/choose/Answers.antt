@@ -15,7 +15,7 @@ overflow_mul-to c =
     let f = fork-places c.requires _ c.end_of-third.ensures _ c.end_of.ensures in omega arith
 
 pub move_within-requires : goal.move_within-requires
-move_within-requires c = let f = fork-places c.requires _ c.end_of-third.ensures _ c.end_of.ensures in record { n_in_bounds = omega arith; n_in_bounds_2 = omega arith }
+move_within-requires c = let f = fork-places c.requires _ c.end_of-third.ensures _ c.end_of.ensures in record { to_in_bounds = omega arith; from_in_bounds = omega arith }
 
 pub returns : goal.returns
 returns c =

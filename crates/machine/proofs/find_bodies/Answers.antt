@@ -20,8 +20,8 @@ overflow_add-at c =
 pub commands-mark-requires-clause-body_in_bounds : goal.commands-mark-requires-clause-body_in_bounds
 commands-mark-requires-clause-body_in_bounds c = command-in c.requires.formed c.loop-at.invariant.0 c.loop-at-test.true
 
-pub commands-mark-requires-clause-body_in_bounds_2 : goal.commands-mark-requires-clause-body_in_bounds_2
-commands-mark-requires-clause-body_in_bounds_2 c = second-in c.requires.formed c.loop-at.invariant.0 c.loop-at-test.true
+pub commands-mark-requires-clause-second_in_bounds : goal.commands-mark-requires-clause-second_in_bounds
+commands-mark-requires-clause-second_in_bounds c = second-in c.requires.formed c.loop-at.invariant.0 c.loop-at-test.true
 
 pub overflow_add-bodies : goal.overflow_add-bodies
 overflow_add-bodies c = let t = turn c.requires.formed c.loop-at.invariant.0 c.loop-at-test.true _ c.commands-mark.ensures in omega arith

@@ -18,11 +18,8 @@ apply-requires-clause-p_value c = c.in-5.is
 pub apply-requires-clause-positions : goal.apply-requires-clause-positions
 apply-requires-clause-positions c = c.requires.positions
 
-pub apply-requires-clause-in_bounds : goal.apply-requires-clause-in_bounds
-apply-requires-clause-in_bounds c = c.requires.in_bounds
-
-pub apply-requires-clause-in_bounds_2 : goal.apply-requires-clause-in_bounds_2
-apply-requires-clause-in_bounds_2 c = c.requires.in_bounds_2
+pub apply-requires-clause-scratch_room : goal.apply-requires-clause-scratch_room
+apply-requires-clause-scratch_room c = c.requires.scratch_room
 
 pub add-requires : goal.add-requires
 add-requires c = ready-addends c.requires.ready c.in-9.is

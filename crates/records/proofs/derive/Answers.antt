@@ -1,21 +1,23 @@
 -- `derive` meets its contract.
-use mathlib.Core.Path.{sym, ◌∙◌}
+use mathlib.Core.Path.{refl, sym}
 use native.Mathlib.Omega.{arith}
-use Rattle.guideline.proofs.Chain.{accepted-file}
+use Rattle.refusal.proofs.Handed.{handed-on}
+use Rattle.refusal.specs.Refusal.{refused-some}
 use Rattle.records.proofs.Laws.{derive-short, derive-refused, derive-accepted}
 use Rattle.records.proofs.derive.Goals as goal
 
-pub returns-then-table-lt8192 : goal.returns-then-table-lt8192
-returns-then-table-lt8192 c = derive-short _ _ (omega arith)
+pub returns-then-table-lt-TABLE_BYTES : goal.returns-then-table-lt-TABLE_BYTES
+returns-then-table-lt-TABLE_BYTES c = rw c.whole.ensures (derive-short _ _ (omega arith))
 
-pub returns-then-of_file-ne0 : goal.returns-then-of_file-ne0
-returns-then-of_file-ne0 c = derive-refused _ _ (omega arith) c.check_file-of_file.ensures c.if-of_file-ne0.true
+pub returns-in_err-check_file : goal.returns-in_err-check_file
+returns-in_err-check_file c =
+    rw (handed-on c.from_residual.result c.in_err-check_file.field-0.0 c.from_residual.ensures.1) (derive-refused _ _ (omega arith) c.in_err-check_file.ensures (refused-some c.in_err-check_file.field-0.0))
 
-pub table_of-requires-clause-g_value : goal.table_of-requires-clause-g_value
-table_of-requires-clause-g_value c = sym c.check_file-of_file.ensures ∙ accepted-file _ c.check_file-of_file.ensures (omega arith)
+pub table_of-requires-clause-accepts : goal.table_of-requires-clause-accepts
+table_of-requires-clause-accepts c = sym c.in_ok-check_file.ensures
 
-pub table_of-requires-clause-in_bounds_2 : goal.table_of-requires-clause-in_bounds_2
-table_of-requires-clause-in_bounds_2 c = omega arith
+pub table_of-requires-clause-table_fits : goal.table_of-requires-clause-table_fits
+table_of-requires-clause-table_fits c = omega arith
 
 pub returns : goal.returns
-returns c = derive-accepted _ _ (omega arith) c.check_file-of_file.ensures (accepted-file _ c.check_file-of_file.ensures (omega arith)) c.table_of.ensures.table_after
+returns c = derive-accepted _ _ (omega arith) c.in_ok-check_file.ensures refl c.table_of.ensures.table_after

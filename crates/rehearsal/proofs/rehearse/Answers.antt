@@ -1,37 +1,35 @@
 -- `rehearsal::rehearse` meets its contract: a refusal, or rewriting and the run of what it wrote. Assumes nothing.
-use mathlib.Core.Path.{sym, ◌∙◌}
+use mathlib.Core.Path.{refl}
 use native.Mathlib.Omega.{arith}
 use lib.ListN.{length-take}
+use Rattle.refusal.proofs.Handed.{handed-on}
 use Rattle.rewriting.proofs.Calling.{call_fits}
-use Rattle.rehearsal.proofs.Ways.{refused-budget, refused-short, refused-rewriting, ran}
+use Rattle.rehearsal.proofs.Ways.{refused-call, refused-rewriting, ran}
 use Rattle.rehearsal.proofs.rehearse.Goals as goal
 
-pub returns-then-budget-gt1000000 : goal.returns-then-budget-gt1000000
-returns-then-budget-gt1000000 c =
-    let d = refused-budget _ _ _ _ _ _ _ _ _ c.if-budget-gt1000000.true c.refusing.ensures in
-    record { table_after = d.0; claimed = d.1 }
+pub returns-in_err-check_call : goal.returns-in_err-check_call
+returns-in_err-check_call c =
+    let e = handed-on c.from_residual.result c.in_err-check_call.field-0.0 c.from_residual.ensures.1 in
+    let d = refused-call _ _ _ _ _ _ _ _ _ c.too_short-short.ensures c.in_err-check_call.field-0.0 c.in_err-check_call.ensures in
+    record { table_after = rw e d.0; claimed = rw e d.1 }
 
-pub returns-then-too_short : goal.returns-then-too_short
-returns-then-too_short c =
-    let d = refused-short _ _ _ _ _ _ _ _ _ c.if-budget-gt1000000.false (sym c.too_short.ensures ∙ c.if-too_short.true) c.refusing-then-too_short.ensures in
-    record { table_after = d.0; claimed = d.1 }
-
-pub returns-then-written-ne0 : goal.returns-then-written-ne0
-returns-then-written-ne0 c =
-    let d = refused-rewriting _ _ _ c.args.out.now _ _ _ _ _ c.if-budget-gt1000000.false (sym c.too_short.ensures ∙ c.if-too_short.false) c.rewrite-written.ensures c.if-written-ne0.true c.refusing-then-written-ne0.ensures in
-    record { table_after = d.0; claimed = d.1 }
+pub returns-in_err-records : goal.returns-in_err-records
+returns-in_err-records c =
+    let e = handed-on c.from_residual-in_err-records.result c.in_err-records.field-0.0 c.from_residual-in_err-records.ensures.1 in
+    let d = refused-rewriting _ _ _ c.args.out.now _ _ _ _ _ c.too_short-short.ensures c.in_ok-check_call.ensures c.in_err-records.field-0.0 c.in_err-records.ensures in
+    record { table_after = rw e d.0; claimed = rw e d.1 }
 
 pub slice_bounds-rewritten-end : goal.slice_bounds-rewritten-end
 slice_bounds-rewritten-end c =
-    call_fits _ _ c.args.out.now (λ i. omega (arith, c.type_inv.script i)) (λ i. omega (arith, c.type_inv.guideline i)) c.rewrite-written.ensures c.if-written-ne0.false
+    call_fits _ _ c.args.out.now (λ i. omega (arith, c.type_inv.script i)) (λ i. omega (arith, c.type_inv.guideline i)) c.in_ok-records.ensures refl
 
 pub slice_bounds-rewritten-end-2 : goal.slice_bounds-rewritten-end-2
 slice_bounds-rewritten-end-2 c =
-    let f = call_fits _ _ c.args.out.now (λ i. omega (arith, c.type_inv.script i)) (λ i. omega (arith, c.type_inv.guideline i)) c.rewrite-written.ensures c.if-written-ne0.false in
+    let f = call_fits _ _ c.args.out.now (λ i. omega (arith, c.type_inv.script i)) (λ i. omega (arith, c.type_inv.guideline i)) c.in_ok-records.ensures refl in
     simp length-take (omega (arith, f))
 
 pub returns : goal.returns
 returns c =
-    let d = ran _ _ _ c.args.out.now _ _ _ _ _ c.if-budget-gt1000000.false (sym c.too_short.ensures ∙ c.if-too_short.false) c.rewrite-written.ensures c.if-written-ne0.false
+    let d = ran _ _ _ c.args.out.now _ _ _ _ _ c.too_short-short.ensures c.in_ok-check_call.ensures c.in_ok-records.ensures refl
     (λ i. omega (arith, c.type_inv.script i)) (λ i. omega (arith, c.type_inv.guideline i)) c.rewritten.ensures in
     record { table_after = d.0; claimed = d.1 }

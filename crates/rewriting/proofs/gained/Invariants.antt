@@ -5,7 +5,4 @@ use Rattle.rewriting.specs.Marks.{gains}
 use Rattle.rewriting.proofs.gained.Given as goal
 
 abbrev pub invariant-loop-f : goal.invariant-loop-f
-invariant-loop-f l = (l.f ≤ l.n) × (l.sum + gains l.marks l.f (l.n - l.f) ≡ gains l.marks 0 l.n) × (l.sum ≤ 255 * l.f)
-
-abbrev pub decreases-loop-f : goal.decreases-loop-f
-decreases-loop-f l = l.n - l.f
+invariant-loop-f l = (l.sum + gains l.marks l.f (l.n - l.f) ≡ gains l.marks 0 l.n) × (l.sum ≤ 255 * l.f)

@@ -1,21 +1,13 @@
-use mathlib.Core.Path.{◌≡◌}
-use native.Mathlib.Omega.{arith}
-use Rattle.guideline.specs.Record.{count}
 use Rattle.rewriting.proofs.Marking.{marks-none, marks-on, marks-past}
 use Rattle.rewriting.proofs.marks_of.Goals.{then-f-lt128, else-f-lt128}
 use Rattle.rewriting.proofs.marks_of.Goals as goal
 
 pub loop-i-init : goal.loop-i-init
-loop-i-init c = (omega arith, marks-none _)
+loop-i-init c = marks-none _
 
 pub loop-i-preserved : goal.loop-i-preserved
-loop-i-preserved c = (
-  omega arith,
-  elim c.if-f-lt128.branch [
-    | then-f-lt128 w ↦ rw w.marks-is (marks-on c.loop-i.invariant.1 c.first_number-f.ensures w.if-f-lt128.true w.kind.ensures w.marked.ensures)
-    | else-f-lt128 w ↦ rw w.marks-is (marks-past c.loop-i.invariant.1 c.first_number-f.ensures w.if-f-lt128.false)
-  ],
-)
-
-pub returns : goal.returns
-returns c = let e : c.loop-i.i ≡ count c.args.g.now = omega arith in rw e at c.loop-i.invariant.1
+loop-i-preserved c =
+    elim c.if-f-lt128.branch [
+      | then-f-lt128 w ↦ rw w.marks-is (marks-on c.loop-i.invariant c.first_number-f.ensures w.if-f-lt128.true w.kind.ensures w.marked.ensures)
+      | else-f-lt128 w ↦ rw w.marks-is (marks-past c.loop-i.invariant c.first_number-f.ensures w.if-f-lt128.false)
+    ]

@@ -7,14 +7,8 @@ use Rattle.rewriting.proofs.write.Goals as goal
 pub loop-i-init : goal.loop-i-init
 loop-i-init c = begins _ _ _
 
-pub overflow_sub-block : goal.overflow_sub-block
-overflow_sub-block c = omega (arith, c.loop-i.invariant.start)
-
-pub copy-requires-clause-n_in_bounds : goal.copy-requires-clause-n_in_bounds
-copy-requires-clause-n_in_bounds c = omega (arith, turn-fits _ _ _ c.loop-i.invariant c.loop-i-test.true c.requires.s_in_bounds refl refl)
-
-pub copy-requires-clause-n_in_bounds_2 : goal.copy-requires-clause-n_in_bounds_2
-copy-requires-clause-n_in_bounds_2 c = omega (arith, c.loop-i.invariant.start)
+pub copy-requires-clause-at_in_bounds : goal.copy-requires-clause-at_in_bounds
+copy-requires-clause-at_in_bounds c = omega (arith, turn-fits _ _ _ c.loop-i.invariant c.loop-i-test.true c.requires.s_in_bounds refl refl)
 
 pub overflow_add-at : goal.overflow_add-at
 overflow_add-at c =
@@ -32,14 +26,8 @@ loop-i-preserved c =
       | else-mark-ne0 w ↦ rw (w.out-is, w.from-is, w.at-is) (goes_on _ _ _ c.loop-i.invariant c.loop-i-test.true (sym c.gain_at-mark.ensures ∙ w.if-mark-ne0.false))
     ]
 
-pub overflow_sub-s : goal.overflow_sub-s
-overflow_sub-s c = omega (arith, c.loop-i.invariant.start, c.loop-i.invariant.inside)
-
-pub copy-requires-2-clause-n_in_bounds : goal.copy-requires-2-clause-n_in_bounds
-copy-requires-2-clause-n_in_bounds c = omega (arith, end_fits _ _ _ c.loop-i.invariant c.loop-i-test.false c.requires.s_len c.requires.s_in_bounds)
-
-pub copy-requires-2-clause-n_in_bounds_2 : goal.copy-requires-2-clause-n_in_bounds_2
-copy-requires-2-clause-n_in_bounds_2 c = omega (arith, c.loop-i.invariant.start, c.loop-i.invariant.inside)
+pub copy-requires-2-clause-at_in_bounds : goal.copy-requires-2-clause-at_in_bounds
+copy-requires-2-clause-at_in_bounds c = omega (arith, end_fits _ _ _ c.loop-i.invariant c.loop-i-test.false c.requires.s_len c.requires.s_in_bounds)
 
 pub shape_of-out : goal.shape_of-out
 shape_of-out c =

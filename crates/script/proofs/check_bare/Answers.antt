@@ -1,10 +1,15 @@
 -- `script::check_bare` meets its contract. Assumes nothing.
-use mathlib.Core.Path.{refl}
-use Rattle.script.proofs.Chain.{bare-found, bare-none}
+use mathlib.Core.Path.{refl, ap}
+use native.Mathlib.Omega.{arith}
+use Rattle.refusal.specs.Refusal.{refused_as}
+use Rattle.script.proofs.Chain.{none_from, first-inside, bare-found, bare-none}
 use Rattle.script.proofs.check_bare.Goals as goal
 
-pub returns-then-found-s : goal.returns-then-found-s
-returns-then-found-s c = bare-found c.args.s.now _ c.first-found.ensures c.if-found-s.true c.refused.ensures
+pub at-requires : goal.at-requires
+at-requires c = omega (arith, first-inside _ _ c.first_command.ensures c.in-Some.is)
+
+pub returns-in-Some : goal.returns-in-Some
+returns-in-Some c = bare-found c.first_command.ensures c.in-Some.is (ap refused_as c.at.ensures)
 
 pub returns : goal.returns
-returns c = bare-none c.args.s.now _ c.first-found.ensures c.if-found-s.false refl
+returns c = bare-none c.first_command.ensures (none_from c.in_default.not-Some) refl

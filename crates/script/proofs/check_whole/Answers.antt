@@ -1,17 +1,23 @@
 -- `script::check_whole` meets its contract: each way out of the chain has its law. Assumes nothing.
-use Rattle.script.proofs.Chain.{refused-4, refused-5, refused-6, refused-7}
+use mathlib.Core.Path.{refl, ap}
+use native.Mathlib.Omega.{arith}
+use Rattle.refusal.specs.Refusal.{refused_as}
+use Rattle.script.proofs.Chain.{none_from, first-inside, refused-4, refused-5, refused-6, refused-7}
 use Rattle.script.proofs.check_whole.Goals as goal
 
-pub returns-then-wrong-n : goal.returns-then-wrong-n
-returns-then-wrong-n c = refused-4 c.args.purpose c.args.s.now c.requires.told c.if-wrong-n.true c.refused.ensures
+pub returns-in-Some : goal.returns-in-Some
+returns-in-Some c = refused-4 c.args.purpose c.args.s.now c.requires.told c.in-Some.is refl
 
-pub returns-then-loose-n : goal.returns-then-loose-n
-returns-then-loose-n c = refused-5 c.args.purpose c.args.s.now c.requires.told c.if-wrong-n.false c.if-loose-n.true c.refused-then-loose-n.ensures
+pub returns-in-Some-loose : goal.returns-in-Some-loose
+returns-in-Some-loose c = refused-5 c.args.purpose c.args.s.now c.requires.told (none_from c.in_default.not-Some) c.in-Some-loose.is refl
 
-pub returns-then-undefined-n : goal.returns-then-undefined-n
-returns-then-undefined-n c =
-    refused-6 c.args.purpose c.args.s.now c.requires.told c.if-wrong-n.false c.if-loose-n.false c.first-undefined.ensures c.if-undefined-n.true c.refused-then-undefined-n.ensures
+pub at-requires : goal.at-requires
+at-requires c = omega (arith, first-inside _ _ c.first_undefined.ensures c.in-Some-first_undefined.is)
+
+pub returns-in-Some-first_undefined : goal.returns-in-Some-first_undefined
+returns-in-Some-first_undefined c =
+    refused-6 c.args.purpose c.args.s.now c.requires.told (none_from c.in_default.not-Some) (none_from c.in_default-loose.not-Some) c.first_undefined.ensures c.in-Some-first_undefined.is (ap refused_as c.at.ensures)
 
 pub returns : goal.returns
 returns c =
-    refused-7 c.args.purpose c.args.s.now c.requires.told c.if-wrong-n.false c.if-loose-n.false c.first-undefined.ensures c.if-undefined-n.false c.check_commands.ensures
+    refused-7 c.args.purpose c.args.s.now c.requires.told (none_from c.in_default.not-Some) (none_from c.in_default-loose.not-Some) c.first_undefined.ensures (none_from c.in_default-first_undefined.not-Some) c.check_commands.ensures

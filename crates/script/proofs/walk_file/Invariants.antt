@@ -5,8 +5,8 @@ use Rattle.terms.specs.Record.{count}
 use Rattle.script.specs.Layout.{Reached}
 use Rattle.script.proofs.walk_file.Given as goal
 
-abbrev pub invariant-loop-end : goal.invariant-loop-end
-invariant-loop-end l = Reached l.s l.at l.found
+abbrev pub invariant-loop-found : goal.invariant-loop-found
+invariant-loop-found l = Reached l.s l.at l.found
 
-abbrev pub decreases-loop-end : goal.decreases-loop-end
-decreases-loop-end l = count l.s - l.at
+abbrev pub decreases-loop-found : goal.decreases-loop-found
+decreases-loop-found l = count l.s - l.at

@@ -1,13 +1,16 @@
 -- `script::walk_main` meets its contract: each way has a law of the walk. Assumes nothing.
 use mathlib.Core.Path.{sym, ◌∙◌}
+use Rattle.std.proofs.lemmas.Result.{err_from_is_err_and}
 use Rattle.script.proofs.Walk.{main-stopped, main-early, main-whole}
 use Rattle.script.proofs.walk_main.Goals as goal
 
-pub returns-then-end-n : goal.returns-then-end-n
-returns-then-end-n c = main-early c.requires.reached c.requires.at_value _ _ (sym c.walk_term.ensures ∙ c.in-Whole.is) c.if-end-n.true
+pub returns-in_err-main : goal.returns-in_err-main
+returns-in_err-main c =
+    let p = err_from_is_err_and c.from_residual.result c.from_residual.ensures.1 in
+    rw (p.1, p.2) (main-stopped c.requires.reached c.requires.at_main _ (sym c.walk_term.ensures ∙ c.in_err-main.was))
 
-pub returns-else-end-n : goal.returns-else-end-n
-returns-else-end-n c = rw c.main.ensures (main-whole c.requires.reached c.requires.at_value _ _ (sym c.walk_term.ensures ∙ c.in-Whole.is) c.if-end-n.false)
+pub returns-then-main-s : goal.returns-then-main-s
+returns-then-main-s c = main-early c.requires.reached c.requires.at_main _ (sym c.walk_term.ensures ∙ c.in_ok-main.was) c.if-main-s.true
 
-pub returns-in-Stopped : goal.returns-in-Stopped
-returns-in-Stopped c = main-stopped c.requires.reached c.requires.at_value _ (sym c.walk_term.ensures ∙ c.in-Stopped.is)
+pub returns : goal.returns
+returns c = rw c.main.ensures (main-whole c.requires.reached c.requires.at_main _ (sym c.walk_term.ensures ∙ c.in_ok-main.was) c.if-main-s.false)

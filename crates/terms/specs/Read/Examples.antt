@@ -1,5 +1,5 @@
 -- Worked readings, walks, ranges and encodings, by computing. Below `Read`, so that they may unfold what is shut there. Assumes nothing.
-use Rattle.std.specs.Prelude.{true, false, [], ◌∷◌, ◌≡◌, refl}
+use Rattle.std.specs.Prelude.{true, false, [], ◌∷◌, ◌≡◌, refl, Some, None, Ok}
 use Rattle.calculus.specs.Term.{Program, records}
 use Rattle.calculus.specs.Term.Term.{var, fun, con, lam, app, call_event, emit, sum, branch}
 use Rattle.words.specs.Bytes.{number, bytes, part}
@@ -8,7 +8,6 @@ use Rattle.terms.specs.Read.{read_f, read_at}
 use Rattle.terms.specs.Read.Read.{got, stuck}
 use Rattle.terms.specs.Encode.{encode_program}
 use Rattle.terms.specs.Walk.{walked, loose}
-use Rattle.terms.specs.declared.Walked.TheVariants.{Whole}
 
 -- The main term of the rehearsed show, `5:0 4:0 5:0 2:1 3:7 5:0 2:0 3:3`, and a record after it.
 show : read_at (record8 5 0 (record8 4 0 (record8 5 0 (record8 2 1 (record8 3 7 (record8 5 0 (record8 2 0 (record8 3 3 (record8 8 9 []))))))))) 0
@@ -46,21 +45,21 @@ unfolding number bytes part arity_of arity_at read_f read_at
 cut = refl
 
 -- The body of a definition, `4:7 5:0 1:1 1:2`: with one abstraction around it variable 2 is loose, at record 3; with two none is.
-walk-one : walked (record8 4 7 (record8 5 0 (record8 1 1 (record8 1 2 [])))) 1 0 ≡ Whole 4 3
+walk-one : walked (record8 4 7 (record8 5 0 (record8 1 1 (record8 1 2 [])))) 1 0 ≡ Ok record { end = 4; loose = Some 3 }
 unfolding number bytes part arity_of arity_at read_f read_at loose records
 walk-one = refl
 
-walk-two : walked (record8 4 7 (record8 5 0 (record8 1 1 (record8 1 2 [])))) 2 0 ≡ Whole 4 4
+walk-two : walked (record8 4 7 (record8 5 0 (record8 1 1 (record8 1 2 [])))) 2 0 ≡ Ok record { end = 4; loose = None }
 unfolding number bytes part arity_of arity_at read_f read_at loose records
 walk-two = refl
 
 -- The first of two loose variables is told.
-walk_first : walked (record8 5 0 (record8 1 0 (record8 1 0 []))) 0 0 ≡ Whole 3 1
+walk_first : walked (record8 5 0 (record8 1 0 (record8 1 0 []))) 0 0 ≡ Ok record { end = 3; loose = Some 1 }
 unfolding number bytes part arity_of arity_at read_f read_at loose records
 walk_first = refl
 
 -- One that is loose in the third term of a branch, `10:0 1:0 1:0 1:1`, with one abstraction around it.
-walk-third : walked (record8 10 0 (record8 1 0 (record8 1 0 (record8 1 1 [])))) 1 0 ≡ Whole 4 3
+walk-third : walked (record8 10 0 (record8 1 0 (record8 1 0 (record8 1 1 [])))) 1 0 ≡ Ok record { end = 4; loose = Some 3 }
 unfolding number bytes part arity_of arity_at read_f read_at loose records
 walk-third = refl
 

@@ -5,61 +5,30 @@ use Rattle.terms.specs.Record.{count, kind_at}
 use Rattle.terms.specs.Read.Laws.{arity-zero, arity-leaf, arity-one, arity-two, arity-none}
 use Rattle.terms.specs.Walk.{many}
 use Rattle.terms.proofs.Pass.{many-leaf, many-lam, many-pair, many-later}
-use Rattle.zipper.proofs.Leaving.{started, inside, ended, never, kind-read, onward}
+use Rattle.zipper.proofs.Leaving.{started, ended, never, kind-read, onward}
 use Rattle.zipper.proofs.leave.Goals as goal
 use Rattle.zipper.proofs.leave.Goals.{in-4, in-1-to-3, in-5-to-7, in-9-to-10}
 
 pub loop-wanted-init : goal.loop-wanted-init
 loop-wanted-init c = (started _ _ _ c.requires.whole, refl, λ j. (c.type_inv.e j).fits)
 
-pub overflow_mul-i : goal.overflow_mul-i
-overflow_mul-i c = let n = inside _ _ _ c.requires.l_le_r c.loop-wanted.invariant.0 c.loop-wanted-test.true in omega (arith, c.loop-wanted.invariant.0.begun, c.loop-wanted.invariant.0.few)
-
-pub get_u64-record-requires : goal.get_u64-record-requires
-get_u64-record-requires c =
-    let n = inside _ _ _ c.requires.l_le_r c.loop-wanted.invariant.0 c.loop-wanted-test.true in omega (arith, c.loop-wanted.invariant.0.begun, c.loop-wanted.invariant.0.few)
-
-pub overflow_sub-i : goal.overflow_sub-i
-overflow_sub-i c = let n = inside _ _ _ c.requires.l_le_r c.loop-wanted.invariant.0 c.loop-wanted-test.true in omega (arith, c.loop-wanted.invariant.0.begun, c.loop-wanted.invariant.0.few)
-
-pub overflow_add-l : goal.overflow_add-l
-overflow_add-l c = let n = inside _ _ _ c.requires.l_le_r c.loop-wanted.invariant.0 c.loop-wanted-test.true in omega (arith, c.loop-wanted.invariant.0.begun, c.loop-wanted.invariant.0.few)
-
-pub overflow_mul-l : goal.overflow_mul-l
-overflow_mul-l c = let n = inside _ _ _ c.requires.l_le_r c.loop-wanted.invariant.0 c.loop-wanted-test.true in omega (arith, c.loop-wanted.invariant.0.begun, c.loop-wanted.invariant.0.few)
-
-pub put_u64-requires : goal.put_u64-requires
-put_u64-requires c =
-    let n = inside _ _ _ c.requires.l_le_r c.loop-wanted.invariant.0 c.loop-wanted-test.true in omega (arith, c.loop-wanted.invariant.0.begun, c.loop-wanted.invariant.0.few)
-
-pub overflow_sub-wanted : goal.overflow_sub-wanted
-overflow_sub-wanted c = let n = inside _ _ _ c.requires.l_le_r c.loop-wanted.invariant.0 c.loop-wanted-test.true in omega (arith, c.loop-wanted.invariant.0.begun, c.loop-wanted.invariant.0.few)
-
-pub overflow_add-wanted : goal.overflow_add-wanted
-overflow_add-wanted c = let n = inside _ _ _ c.requires.l_le_r c.loop-wanted.invariant.0 c.loop-wanted-test.true in omega (arith, c.loop-wanted.invariant.0.begun, c.loop-wanted.invariant.0.few)
-
-pub overflow_add-wanted-in-9-to-10 : goal.overflow_add-wanted-in-9-to-10
-overflow_add-wanted-in-9-to-10 c =
-    let n = inside _ _ _ c.requires.l_le_r c.loop-wanted.invariant.0 c.loop-wanted-test.true in omega (arith, c.loop-wanted.invariant.0.begun, c.loop-wanted.invariant.0.few, c.further-wanted.ensures)
-
 pub returns-in_default : goal.returns-in_default
 returns-in_default c =
-    let n = inside _ _ _ c.requires.l_le_r c.loop-wanted.invariant.0 c.loop-wanted-test.true in let k = kind-read _ _ _ c.requires.l_le_r c.loop-wanted.invariant.0 n c.loop-wanted.invariant.2 _ c.get_u64-record.ensures in absurd (never _ _ _ c.requires.l_le_r c.loop-wanted.invariant.0 c.loop-wanted-test.true (arity-zero _ (omega (arith, k))))
+    let n = c.loop-wanted.invariant.0.inside c.loop-wanted-test.true in
+    let k = kind-read _ _ _ c.requires.l_le_r c.loop-wanted.invariant.0 n c.loop-wanted.invariant.2 _ c.read-record.ensures in
+    absurd (never _ _ _ c.requires.l_le_r c.loop-wanted.invariant.0 c.loop-wanted-test.true (arity-zero _ (omega (arith, k))))
 
 pub returns-in_default-2 : goal.returns-in_default-2
 returns-in_default-2 c =
-    let n = inside _ _ _ c.requires.l_le_r c.loop-wanted.invariant.0 c.loop-wanted-test.true in let k = kind-read _ _ _ c.requires.l_le_r c.loop-wanted.invariant.0 n c.loop-wanted.invariant.2 _ c.get_u64-record.ensures in absurd (never _ _ _ c.requires.l_le_r c.loop-wanted.invariant.0 c.loop-wanted-test.true (arity-none _ (omega (arith, k)) (λ y. omega (arith, k)) (λ y. omega (arith, k))))
+    let n = c.loop-wanted.invariant.0.inside c.loop-wanted-test.true in
+    let k = kind-read _ _ _ c.requires.l_le_r c.loop-wanted.invariant.0 n c.loop-wanted.invariant.2 _ c.read-record.ensures in
+    absurd (never _ _ _ c.requires.l_le_r c.loop-wanted.invariant.0 c.loop-wanted-test.true (arity-none _ (omega (arith, k)) (λ y. omega (arith, k)) (λ y. omega (arith, k))))
 
 pub returns-in_default-3 : goal.returns-in_default-3
 returns-in_default-3 c =
-    let n = inside _ _ _ c.requires.l_le_r c.loop-wanted.invariant.0 c.loop-wanted-test.true in let k = kind-read _ _ _ c.requires.l_le_r c.loop-wanted.invariant.0 n c.loop-wanted.invariant.2 _ c.get_u64-record.ensures in absurd (never _ _ _ c.requires.l_le_r c.loop-wanted.invariant.0 c.loop-wanted-test.true (arity-none _ (omega (arith, k)) (λ y. omega (arith, k)) (λ y. omega (arith, k))))
-
-pub overflow_add-i : goal.overflow_add-i
-overflow_add-i c = let n = inside _ _ _ c.requires.l_le_r c.loop-wanted.invariant.0 c.loop-wanted-test.true in omega (arith, c.loop-wanted.invariant.0.begun, c.loop-wanted.invariant.0.few)
-
-pub loop-wanted-smaller : goal.loop-wanted-smaller
-loop-wanted-smaller c =
-    let n = inside _ _ _ c.requires.l_le_r c.loop-wanted.invariant.0 c.loop-wanted-test.true in omega arith
+    let n = c.loop-wanted.invariant.0.inside c.loop-wanted-test.true in
+    let k = kind-read _ _ _ c.requires.l_le_r c.loop-wanted.invariant.0 n c.loop-wanted.invariant.2 _ c.read-record.ensures in
+    absurd (never _ _ _ c.requires.l_le_r c.loop-wanted.invariant.0 c.loop-wanted-test.true (arity-none _ (omega (arith, k)) (λ y. omega (arith, k)) (λ y. omega (arith, k))))
 
 pub loop-wanted-preserved : goal.loop-wanted-preserved
 loop-wanted-preserved c =
@@ -69,9 +38,9 @@ loop-wanted-preserved c =
     let p = c.loop-wanted-test.true in
     let h = c.loop-wanted.invariant.0 in
     let bytes = c.loop-wanted.invariant.2 in
-    let n : i < count e = inside _ _ _ c.requires.l_le_r h p in
-    let k = kind-read _ _ _ c.requires.l_le_r h n bytes _ c.get_u64-record.ensures in
-    let on = onward _ _ _ c.requires.l_le_r h n bytes _ c.get_u64-record.ensures _ c.put_u64.ensures in
+    let n : i < count e = h.inside p in
+    let k = kind-read _ _ _ c.requires.l_le_r h n bytes _ c.read-record.ensures in
+    let on = onward _ _ _ c.requires.l_le_r h n bytes _ c.read-record.ensures _ c.write.ensures in
     elim c.match-kind.branch [
       | in-4 w ↦ (on _ (many-lam e i n v p (arity-one (kind_at e i) (omega (arith, k))) ∙ ap (λ (m : ℕ). many m e (i + 1)) (sym w.wanted-is)) (omega arith), omega arith, bytes)
       | in-1-to-3 w ↦ (on _ (many-leaf e i n v p (arity-leaf (kind_at e i) (omega (arith, k)) (omega (arith, k))) ∙ ap (λ (m : ℕ). many m e (i + 1)) (sym w.wanted-is)) (omega arith), omega arith, bytes)

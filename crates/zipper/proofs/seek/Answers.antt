@@ -1,7 +1,6 @@
 use native.Mathlib.Omega.{arith}
 use borrow.Author.Rules.{rules}
 use mathlib.Core.Path.{refl}
-use Prim.Native.Nat.{◌-◌}
 use lib.ListN.{length-set}
 use Rattle.zipper.proofs.Search.{seen, seek-enter, seek-none, seek-value, end-in, value-whole, frame-in, seek-turn, seek-branch, first-in, seek-pair}
 use Rattle.zipper.proofs.seek.Goals as goal
@@ -13,7 +12,8 @@ pub returns-then-depth-eq0 : goal.returns-then-depth-eq0
 returns-then-depth-eq0 c = seek-value c.loop-entry.invariant.0 (omega arith) c.if-depth-eq0.true
 
 pub overflow_cast-p : goal.overflow_cast-p
-overflow_cast-p c = omega (arith, c.type_inv.frames (c.loop-entry.depth - 1))
+overflow_cast-p c =
+    let s = frame-in c.loop-entry.invariant.0 (omega arith) c.if-depth-eq0.false _ refl _ refl in omega arith
 
 pub at_pair-requires-clause-p_bound : goal.at_pair-requires-clause-p_bound
 at_pair-requires-clause-p_bound c = first-in c.loop-entry.invariant.0 (omega arith) c.if-depth-eq0.false _ refl _ refl c.if-entry-eq1.true
@@ -67,4 +67,4 @@ returns-in_default-3 c =
 
 pub loop-entry-preserved : goal.loop-entry-preserved
 loop-entry-preserved c =
-    let z = seek-enter c.loop-entry.invariant.0 (λ a b. search rules) _ _ c.put_u64.ensures refl in (z, seen z, omega arith, simp length-set (omega arith))
+    let z = seek-enter c.loop-entry.invariant.0 (λ a b. search rules) _ _ c.write.ensures refl in (z, seen z, omega arith, simp length-set (omega arith))

@@ -1,7 +1,0 @@
--- `run_first` is safe.
-use native.Mathlib.Omega.{arith}
-use lib.ListN.{length-take}
-use Rattle.edges_run.proofs.run_first.Goals as goal
-
-pub slice_bounds-run-end : goal.slice_bounds-run-end
-slice_bounds-run-end c = simp length-take (omega arith)

@@ -1,0 +1,18 @@
+-- The engine's calls on buffers that are full before. Assumes nothing.
+use Rattle.std.specs.Prelude.{List, ℕ, replicate}
+use Rattle.plain.specs.Answer as plain_run
+use Rattle.plain.specs.Answer.{plain_of}
+use Rattle.rehearsal.specs.Rehearsal as rehearsals
+use Rattle.rehearsal.specs.Rehearsal.{rehearsal_of}
+
+-- So many bytes, each full.
+abbrev pub full : ℕ → List ℕ
+full n = replicate n 255
+
+-- What the plain run answers and leaves.
+abbrev pub plain_after : List ℕ → ℕ → plain_run.After
+plain_after script budget = plain_of script budget (full 24576) (full 24576)
+
+-- What a rehearsal answers and leaves.
+abbrev pub rehearsed : List ℕ → List ℕ → ℕ → rehearsals.After
+rehearsed script guideline budget = rehearsal_of script guideline budget (full 10368) (full 24576) (full 24576) (full 16384) (full 16384) (full 8192)

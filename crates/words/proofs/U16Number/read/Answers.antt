@@ -1,0 +1,7 @@
+-- `u16::read` meets its contract. Assumes nothing.
+use Rattle.std.proofs.Common.{◌∙◌}
+use Rattle.words.proofs.Laws.{number-read}
+use Rattle.words.proofs.U16Number.read.Goals as goal
+
+pub returns : goal.returns
+returns c = c.from_le_bytes.ensures ∙ number-read 1 _ _ c.array.ensures c.requires
