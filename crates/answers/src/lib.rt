@@ -1,4 +1,4 @@
-// The answers of the entries as words for C: structs of words, by value.
+// The answers of the entries as words for C: structs of words, by value. A number 0 in them is C's word for no refusal, as include/lorgwin.h has it.
 #![tactic(auto)]
 
 ghost use Rattle.std.specs.Prelude.{◌≡◌};
@@ -127,7 +127,7 @@ impl From<Result<rewritten::Ran, Refusal>> for RewrittenWords {
     }
 }
 
-// The record after the term; 2 ^ 64 - 1 for none.
+// The record after the term; 2 ^ 64 - 1, a word that C has, for none. No `From` says this: neither `Option` nor `u64` is a type of ours.
 pub fn passed_word(p: Option<usize>) -> u64
     ensures { result ≡ passed_word p }
 {

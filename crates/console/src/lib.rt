@@ -1,4 +1,5 @@
-// The entries for C, as include/lorgwin.h declares them: answers are structs of words, by value.
+// The entries for C, as include/lorgwin.h declares them: answers are structs of words, by value, and the buffers are parameters one by one, since
+// a C caller lends each by its own pointer and length.
 #![tactic(auto)]
 
 ghost use Rattle.std.specs.Prelude.{◌≡◌};

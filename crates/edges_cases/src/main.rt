@@ -8,8 +8,9 @@
 #![tactic(auto)]
 
 use history::Entry;
+use rewritten::ENTRIES_BYTES;
 use samples::{GuidelineRecord, Numbers, ScriptRecord};
-use std::io;
+use std::{fmt, io};
 
 const OVERRIDE: u32 = 0;
 
@@ -71,18 +72,27 @@ fn override_with(x: u32) -> Call {
 
 // ---- lines
 
-fn print_log(rt: &HostRuntime, log: &[u8; 16384], n: u32) -> io::Result<()> {
-    // No log has more than 1,024 entries.
-    for i in 0..n.min(1024) as usize {
-        let Entry {
-            time,
-            function,
-            kind,
-            number,
-        } = history::entry_at(log, i);
-        print!(rt; "{time} {function} {kind} {number}, ")?;
+// The first n entries of a log, a comma after each. No log has more than 1,024.
+#[derive(Clone, Copy)]
+struct Entries<'a> {
+    log: &'a [u8; ENTRIES_BYTES],
+    n: u32,
+}
+
+impl fmt::Display for Entries<'_> {
+    fn fmt<W: fmt::Write>(&self, f: &mut fmt::Formatter<W>) -> fmt::Result {
+        let Entries { log, n } = *self;
+        for i in 0..n.min(1024) as usize {
+            let Entry {
+                time,
+                function,
+                kind,
+                number,
+            } = history::entry_at(log, i);
+            write!(f, "{time} {function} {kind} {number}, ")?;
+        }
+        Ok(())
     }
-    Ok(())
 }
 
 // The line of a case: a main term after the definitions is rehearsed.
@@ -98,13 +108,17 @@ fn case(
     let script = samples::file_of(rt.alloc(), &records)?;
     let guideline = samples::file_of(rt.alloc(), rules)?;
     let run = samples::rehearse(&script, &guideline, budget);
-    print!(rt; "({name}) ")?;
     match run.answer {
-        Err(refusal) => println!(rt; "{}", Numbers(Err(refusal))),
-        Ok(ran) => {
-            print_log(rt, &run.log, ran.counts.log)?;
-            println!(rt; "{} {}", u32::from(ran.outcome), ran.counts.steps)
-        }
+        Err(refusal) => println!(rt; "({name}) {}", Numbers(Err(refusal))),
+        Ok(ran) => println!(rt;
+            "({name}) {}{} {}",
+            Entries {
+                log: &run.log,
+                n: ran.counts.log,
+            },
+            u32::from(ran.outcome),
+            ran.counts.steps,
+        ),
     }
 }
 

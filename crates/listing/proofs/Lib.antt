@@ -1,5 +1,5 @@
 pub mod Numbers
-pub mod Written
+pub mod Lines
 pub mod Rehearsed
 pub mod Printed
 pub mod Long

@@ -4,16 +4,15 @@
 
 mod text;
 
-ghost use Rattle.std.specs.Prelude.{IfOk, IfSome};
-ghost use Rattle.io.specs.Counts.{IsPrefixLen};
+ghost use Rattle.std.specs.Prelude.{◌≤◌, length, IfOk, IfSome};
 
 use std::fs::File;
-use std::io::{Error, ErrorKind, Read, Result as IoResult, Write};
+use std::io::{Error, ErrorKind, Read, Result as IoResult};
 
 // Reads until the buffer is full or the file has ended. It is then full, or the file has been seen to end. A read may give any part of what is
 // wanted, so no `for` counts the reads, and std's `read_to_end` has no buffer of a caller's.
 fn read_full(file: &mut File, buffer: &mut [u8]) -> IoResult<usize>
-    ensures { IfOk result (λ n. IsPrefixLen n buffer.new) }
+    ensures { IfOk result (λ n. n ≤ length buffer.new) }
 {
     let mut done = 0;
     while done < buffer.len() {
@@ -34,7 +33,7 @@ fn tell(rt: &HostRuntime, name: &str, error: Error) {
 
 // How many bytes a file gave. None where a read failed: what came is not the file.
 fn read_open(rt: &HostRuntime, name: &str, file: &mut File, buffer: &mut [u8]) -> Option<usize>
-    ensures { IfSome result (λ n. IsPrefixLen n buffer.new) }
+    ensures { IfSome result (λ n. n ≤ length buffer.new) }
 {
     match read_full(file, buffer) {
         Ok(n) => Some(n),
@@ -47,7 +46,7 @@ fn read_open(rt: &HostRuntime, name: &str, file: &mut File, buffer: &mut [u8]) -
 
 // "a missing file reads as empty". One that is there and cannot be read does not: a guideline taken for empty would log nothing.
 fn read_file(rt: &HostRuntime, name: &str, buffer: &mut [u8]) -> Option<usize>
-    ensures { IfSome result (λ n. IsPrefixLen n buffer.new) }
+    ensures { IfSome result (λ n. n ≤ length buffer.new) }
 {
     match File::open(rt, name) {
         Ok(mut file) => read_open(rt, name, &mut file, buffer),
@@ -71,7 +70,5 @@ fn main(rt: HostRuntime) -> IoResult<()> {
     let Some(g) = read_file(&rt, "show.gl", &mut guideline) else {
         return Ok(());
     };
-    let mut text = io::large_buffer();
-    let n = text::list(&script[..s], &guideline[..g], &mut text);
-    rt.stdout().write_all(&text[..n])
+    print!(rt; "{}", text::list(&script[..s], &guideline[..g]))
 }

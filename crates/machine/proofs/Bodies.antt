@@ -6,7 +6,7 @@ use native.Mathlib.Decide.{dec_lt}
 use native.Mathlib.Numerals.{add-one}
 use native.Mathlib.Omega.{arith}
 use Prim.Native.Nat.{ℕ, suc, ◌+◌, ◌*◌, ◌<◌, ◌≤◌}
-use lib.ListN.{length, drop, set, get_or}
+use lib.ListN.{length, drop, set}
 use lib.Seq.{get_or-set_same, get_or-set_other}
 use borrow.Author.Tests.{ne_eqb}
 use Rattle.calculus.specs.Term.{Term, view, records, Bare, Placed, codebase, bodies as functions}
@@ -20,15 +20,19 @@ use Rattle.terms.specs.Record.{count, kind_at, record8}
 use Rattle.terms.specs.Encode.{encode, Fits, encode_from}
 use Rattle.terms.proofs.Stands.{Stands, stands-within}
 use Rattle.terms.proofs.Encode.{record-inside, record-kind, record-rest, encode-stands}
+use Rattle.history.specs.Commands.{commands_number}
+use Rattle.history.specs.declared.Commands.{Commands}
+use Rattle.history.specs.declared.Commands.TheVariants.{None, Note, NoteAndLog}
 use Rattle.zipper.specs.Zipper.{end_at}
 use Rattle.zipper.proofs.Parts.{first_kind, first-inside, records-some}
 use Rattle.zipper.proofs.Whole.{end-there}
 use Rattle.zipper.proofs.Ends.{last-there}
 use Rattle.script.specs.File.{program_in}
 use Rattle.machine.specs.Program.{code_in, Formed}
-use Rattle.machine.specs.Bodies.{emit_mark, mark_of, commands_at, BodyAt, Found}
+use Rattle.machine.specs.Bodies.{emit_mark, mark_of, commands_at, body_of, BodyAt, Found}
+use Rattle.machine.specs.declared.Body.{Body}
 use Rattle.machine.proofs.Strip.{strip-fits, stripped-from}
-use Rattle.machine.proofs.Program.{Body, body_below, formed-body, formed-main}
+use Rattle.machine.proofs.Program.{Body as Shaped, body_below, formed-body, formed-main}
 
 -- ---- a body in its bytes
 
@@ -49,9 +53,9 @@ view-kind (branch c a b) e = omega arith
 pub record Plain (b : Term) : Type 0 where
   pub no_note : (view b).kind ≡ 6 → ⊥
   pub no-log : (view b).kind ≡ 7 → ⊥
-  pub mark : mark_of b ≡ 0
+  pub mark : mark_of b ≡ None
   pub same : strip b ≡ b
-  pub rest-mark : emit_mark b ≡ 1
+  pub rest-mark : emit_mark b ≡ Note
   pub rest-same : strip_emit b ≡ b
 
 bare-plain : (b : Term) → Bare b → Plain b
@@ -67,39 +71,22 @@ bare-plain (sum a b) p = record { no_note = λ e. omega arith; no-log = λ e. om
 bare-plain (branch c a b) p = record { no_note = λ e. omega arith; no-log = λ e. omega arith; mark = refl; same = refl; rest-mark = refl; rest-same = refl }
 
 -- There are at most two commands.
-emit-most : (b : Term) → emit_mark b ≤ 2
-emit-most (var i) = omega arith
-emit-most (fun f) = omega arith
-emit-most (con n) = omega arith
-emit-most (lam l b) = omega arith
-emit-most (app a b) = omega arith
-emit-most (call_event f a r) = omega arith
-emit-most (emit f a r) = omega arith
-emit-most (sum a b) = omega arith
-emit-most (branch c a b) = omega arith
+most : (c : Commands) → commands_number c ≤ 2
+most None = omega arith
+most Note = omega arith
+most NoteAndLog = omega arith
 
-mark-most : (b : Term) → mark_of b ≤ 2
-mark-most (var i) = omega arith
-mark-most (fun f) = omega arith
-mark-most (con n) = omega arith
-mark-most (lam l b) = omega arith
-mark-most (app a b) = omega arith
-mark-most (call_event f a r) = emit-most r
-mark-most (emit f a r) = omega arith
-mark-most (sum a b) = omega arith
-mark-most (branch c a b) = omega arith
-
--- The commands' count, by the kinds.
+-- The commands, by the kinds.
 module _ (s : List ℕ) (i : ℕ) where
-  pub commands-none : (kind_at s i ≡ 6 → ⊥) → 0 ≡ commands_at s i
+  pub commands-none : (kind_at s i ≡ 6 → ⊥) → None ≡ commands_at s i
   unfolding commands_at
   commands-none n = rw (ne_eqb (kind_at s i) 6 n)
 
-  pub commands-one : kind_at s i ≡ 6 → (kind_at s (i + 2) ≡ 7 → ⊥) → 1 ≡ commands_at s i
+  pub commands-one : kind_at s i ≡ 6 → (kind_at s (i + 2) ≡ 7 → ⊥) → Note ≡ commands_at s i
   unfolding commands_at
   commands-one k n = rw (k, ne_eqb (kind_at s (i + 2)) 7 n)
 
-  pub commands-two : kind_at s i ≡ 6 → kind_at s (i + 2) ≡ 7 → 2 ≡ commands_at s i
+  pub commands-two : kind_at s i ≡ 6 → kind_at s (i + 2) ≡ 7 → NoteAndLog ≡ commands_at s i
   unfolding commands_at
   commands-two k m = rw (k, m)
 
@@ -113,7 +100,7 @@ past-command s i k n x e =
 pub record Shown (s : List ℕ) (i : ℕ) (b : Term) : Type 0 where
   pub marked : commands_at s i ≡ mark_of b
   pub later : List ℕ
-  pub lies : drop (8 * (i + 2 * mark_of b)) s ≡ encode (strip b) ++ later
+  pub lies : drop (8 * (i + 2 * commands_number (mark_of b))) s ≡ encode (strip b) ++ later
   pub second : kind_at s i ≡ 6 → 8 * (i + 2) < length s
 
 module _ (s : List ℕ) (i f : ℕ) (rest : List ℕ) where
@@ -122,7 +109,7 @@ module _ (s : List ℕ) (i f : ℕ) (rest : List ℕ) where
   plain-shown b p g e =
       let q = bare-plain b p in
       let k : kind_at s i ≡ (view b).kind = first_kind s i b (encode-stands s i b rest g e) in
-      let j : i + 2 * mark_of b ≡ i = omega (arith, q.mark) in
+      let j : i + 2 * commands_number (mark_of b) ≡ i = rw q.mark (omega arith) in
       record {
         marked = rw (ne_eqb (kind_at s i) 6 (λ z. q.no_note (sym k ∙ z)), q.mark);
         later = rest;
@@ -140,7 +127,7 @@ module _ (s : List ℕ) (i f : ℕ) (rest : List ℕ) where
       let k : kind_at s (i + 2) ≡ (view b).kind = first_kind s (i + 2) b w in
       let n = first-inside s (i + 2) b w in
       let k₀ : kind_at s i ≡ 6 = record-kind s i 6 f (record8 1 0 [] ++ (encode b ++ rest)) e₁ in
-      let j : i + 2 * emit_mark b ≡ i + 2 = omega (arith, q.rest-mark) in
+      let j : i + 2 * commands_number (emit_mark b) ≡ i + 2 = rw q.rest-mark in
       record {
         marked = rw (k₀, ne_eqb (kind_at s (i + 2)) 7 (λ z. q.no-log (sym k ∙ z)), q.rest-mark);
         later = rest;
@@ -174,21 +161,21 @@ module _ (s : List ℕ) (i f : ℕ) (rest : List ℕ) where
 -- ---- the pass
 
 -- What is noted of a body.
-pub record Entry (s : List ℕ) (b : Term) (i mark : ℕ) : Type 0 where
-  pub shape : mark ≡ mark_of b
-  pub body : BodyAt s i (strip b)
+pub record Entry (s : List ℕ) (b : Term) (x : Body) : Type 0 where
+  pub shape : x.commands ≡ mark_of b
+  pub body : BodyAt s x.at (strip b)
 
 -- The pass has come to record at, past f definitions.
-pub record Passing (s bodies marks : List ℕ) (at f : ℕ) : Type 0 where
+pub record Passing (s : List ℕ) (bodies : List Body) (at f : ℕ) : Type 0 where
   pub rest : List Term
   pub bytes : drop (8 * at) s ≡ encode_from f rest (program_in s).main
   pub ahead : (j : ℕ) → codebase (program_in s) (f + j) ≡ functions rest j
   pub total : f + length rest ≡ length (program_in s).definitions
-  pub passed : (j : ℕ) (b : Term) → j < f → codebase (program_in s) j ≡ some b → Entry s b (get_or bodies j 0) (get_or marks j 0)
+  pub passed : (j : ℕ) (b : Term) → j < f → codebase (program_in s) j ≡ some b → Entry s b (body_of bodies j)
 
 -- The numbers of a turn, at a definition that begins at record at.
-pub record Turn (s : List ℕ) (at f mark : ℕ) : Type 0 where
-  pub two : mark ≤ 2
+pub record Turn (s : List ℕ) (at f n : ℕ) : Type 0 where
+  pub two : n ≤ 2
   pub low : f < 128
   pub inside : at + 1 < count s
   pub few : count s ≤ 1296
@@ -203,8 +190,8 @@ pub record Here (rest : List Term) : Type 0 where
 
 module _ {s : List ℕ} (h : Formed RewrittenRun s) where
   -- Before any definition.
-  pub passing-none : (bodies marks : List ℕ) → Passing s bodies marks 0 0
-  passing-none bodies marks = record {
+  pub passing-none : (bodies : List Body) → Passing s bodies 0 0
+  passing-none bodies = record {
     rest = (program_in s).definitions;
     bytes = h.bytes;
     ahead = λ j. let e : 0 + j ≡ j = omega arith in rw e;
@@ -212,7 +199,7 @@ module _ {s : List ℕ} (h : Formed RewrittenRun s) where
     passed = λ j b l e. absurd (omega arith);
   }
 
-  module _ {bodies marks : List ℕ} {at f : ℕ} (p : Passing s bodies marks at f) where
+  module _ {bodies : List Body} {at f : ℕ} (p : Passing s bodies at f) where
     -- A term begins at the record, or a definition.
     main-kind : drop (8 * at) s ≡ encode (program_in s).main → (kind_at s at ≡ 8 → ⊥) × (at < count s)
     main-kind e =
@@ -228,11 +215,11 @@ module _ {s : List ℕ} (h : Formed RewrittenRun s) where
         on (b ∷ bs) e = let k = record-inside s at 8 f (encode b ++ encode_from (suc f) bs (program_in s).main) e in omega arith
 
     -- No definition begins there: all are passed.
-    pub passing-end : (kind_at s at ≡ 8 → ⊥) → 128 ≤ length bodies → Found s bodies marks at
+    pub passing-end : (kind_at s at ≡ 8 → ⊥) → 128 ≤ length bodies → Found s bodies at
     unfolding code_in
     passing-end n w = on p.rest p.bytes p.total
       where
-        on : (rest : List Term) → drop (8 * at) s ≡ encode_from f rest (program_in s).main → f + length rest ≡ length (program_in s).definitions → Found s bodies marks at
+        on : (rest : List Term) → drop (8 * at) s ≡ encode_from f rest (program_in s).main → f + length rest ≡ length (program_in s).definitions → Found s bodies at
         on [] e t =
             let l = last-there s at (program_in s).main e (formed-main h) in
             record {
@@ -244,7 +231,7 @@ module _ {s : List ℕ} (h : Formed RewrittenRun s) where
                     let r = stripped-from (codebase (program_in s)) g b q in
                     rw r.is (p.passed g r.body (omega (arith, body_below (program_in s).definitions g r.body r.has)) r.has).body;
               };
-              shapes = λ g b q. (p.passed g b (omega (arith, body_below (program_in s).definitions g b q)) q).shape;
+              marked = λ g b q. (p.passed g b (omega (arith, body_below (program_in s).definitions g b q)) q).shape;
               last = l.0;
               is-main = l.1;
             }
@@ -270,7 +257,7 @@ module _ {s : List ℕ} (h : Formed RewrittenRun s) where
           let e : f + 0 ≡ f = omega arith in
           sym (ap (λ (x : ℕ). codebase (program_in s) x) e) ∙ p.ahead 0 ∙ ap (λ (r : List Term). functions r 0) here.is
 
-      body_is : Body f here.body
+      body_is : Shaped f here.body
       body_is = formed-body h f here.body has
 
       stands : Stands s (at + 1) here.body
@@ -286,18 +273,19 @@ module _ {s : List ℕ} (h : Formed RewrittenRun s) where
       pub second-in : kind_at s (at + 1) ≡ 6 → 8 * (at + 1 + 2) < length s
       second-in = body-shown.second
 
-      module _ (mark : ℕ) (m : mark ≡ commands_at s (at + 1)) where
+      module _ (m : Commands) (is-m : m ≡ commands_at s (at + 1)) where
         -- The entry that is made.
-        made : Entry s here.body (at + 1 + 2 * mark) mark
+        made : Entry s here.body (record { at = at + 1 + 2 * commands_number m; commands = m })
         made =
             let b : Term = here.body in
-            let z : mark ≡ mark_of b = m ∙ body-shown.marked in
-            let lie : drop (8 * (at + 1 + 2 * mark)) s ≡ encode (strip b) ++ body-shown.later = rw z body-shown.lies in
+            let z : m ≡ mark_of b = is-m ∙ body-shown.marked in
+            let i : ℕ = at + 1 + 2 * commands_number m in
+            let lie : drop (8 * i) s ≡ encode (strip b) ++ body-shown.later = rw z body-shown.lies in
             record {
               shape = z;
               body = record {
                 lies = record {
-                  bytes = lie ∙ ap (λ (x : List ℕ). encode (strip b) ++ x) (sym (after-term s (at + 1 + 2 * mark) (strip b) body-shown.later lie));
+                  bytes = lie ∙ ap (λ (x : List ℕ). encode (strip b) ++ x) (sym (after-term s i (strip b) body-shown.later lie));
                   bare = body_is.bare;
                   few = body_is.few;
                 };
@@ -305,14 +293,14 @@ module _ {s : List ℕ} (h : Formed RewrittenRun s) where
               };
             }
 
-        pub turn : Turn s at f mark
+        pub turn : Turn s at f (commands_number m)
         turn =
             let b : Term = here.body in
             let i = first-inside s (at + 1) b stands in
             let l = ap length h.bytes ∙ program-length 0 (program_in s).definitions (program_in s).main in
             let e = end-there s (at + 1) b stands in
             record {
-              two = omega (arith, made.shape, mark-most b);
+              two = most m;
               low = omega (arith, body_below (program_in s).definitions f b has, h.formed.few);
               inside = i;
               few = omega (arith, h.formed.short);
@@ -321,10 +309,10 @@ module _ {s : List ℕ} (h : Formed RewrittenRun s) where
             }
 
         -- On to the next definition.
-        pub passing-on : (end : ℕ) → end ≡ end_at s (at + 1) → f < length bodies → f < length marks
-            → (bodies' marks' : List ℕ) (i : ℕ) → bodies' ≡ set bodies f i → marks' ≡ set marks f mark → i ≡ at + 1 + 2 * mark → Passing s bodies' marks' end (f + 1)
+        pub passing-on : (end : ℕ) → end ≡ end_at s (at + 1) → f < length bodies → (bodies' : List Body) (x : Body) → bodies' ≡ set bodies f x
+            → x ≡ record { at = at + 1 + 2 * commands_number m; commands = m } → Passing s bodies' end (f + 1)
         unfolding functions
-        passing-on end z lb lm bodies' marks' i q r v =
+        passing-on end z l bodies' x q v =
             let b : Term = here.body in
             let t = p.total in
             let w : end ≡ at + 1 + records b = z ∙ end-there s (at + 1) b stands in
@@ -335,13 +323,15 @@ module _ {s : List ℕ} (h : Formed RewrittenRun s) where
                   let e : f + 1 + j ≡ f + suc j = omega arith in
                   rw e (p.ahead (suc j) ∙ ap (λ (x : List Term). functions x (suc j)) here.is);
               total = omega (arith, ap length here.is);
-              passed = λ j x l e. on j x e (dec_lt j f) l;
+              passed = λ j y k e. on j y e (dec_lt j f) k;
             }
           where
-            on : (j : ℕ) (x : Term) → codebase (program_in s) j ≡ some x → Dec (j < f) → j < f + 1 → Entry s x (get_or bodies' j 0) (get_or marks' j 0)
-            on j x e (yes c) l =
-                rw (q, r, get_or-set_other bodies f j i 0 (λ y. omega arith), get_or-set_other marks f j mark 0 (λ y. omega arith)) (p.passed j x c e)
-            on j x e (no c) l =
-                let y : j ≡ f = omega arith in
-                let u : x ≡ here.body = cc (has) in
-                rw (y, u, q, r, get_or-set_same bodies f i 0 lb, get_or-set_same marks f mark 0 lm, v) made
+            none : Body
+            none = record { at = 0; commands = None }
+
+            on : (j : ℕ) (y : Term) → codebase (program_in s) j ≡ some y → Dec (j < f) → j < f + 1 → Entry s y (body_of bodies' j)
+            on j y e (yes c) k = rw (q, get_or-set_other bodies f j x none (λ z. omega arith)) (p.passed j y c e)
+            on j y e (no c) k =
+                let z : j ≡ f = omega arith in
+                let u : y ≡ here.body = cc (has) in
+                rw (z, u, q, get_or-set_same bodies f x none l, v) made

@@ -8,7 +8,7 @@ use mathlib.Core.Path.{◌≡◌, refl, sym, ap, ap₂, subst, ◌∙◌}
 use Prim.Native.Nat.{ℕ, ◌+◌, ◌-◌, ◌*◌, ◌/◌, ◌<◌, ◌≤◌}
 use native.Mathlib.Decide.{ℕ_discrete}
 use native.Mathlib.Omega.{arith}
-use lib.ListN.{length, take, drop, get_or}
+use lib.ListN.{length, take, drop}
 use borrow.Author.Tests.{eq-eqb, ne_eqb, le-leb, lt-leb}
 use Rattle.std.specs.Prelude.{Option, Some, None, is_some}
 use Rattle.words.specs.Bytes.{part}
@@ -28,16 +28,18 @@ use Rattle.terms.proofs.Encode.{encode-length, term-at}
 use Rattle.substitution.specs.Copied.{copied, Lies, WrittenIs}
 use Rattle.substitution.proofs.Laws.{copied-encode, put-fits, lies}
 use Rattle.zipper.specs.Frame.{Frame, plug}
+use Rattle.zipper.specs.declared.Entry.{Entry}
 use Rattle.zipper.specs.Zipper.{whole_in, end_at, ZipOf, Poised}
 use Rattle.calculus.proofs.Size.{bare-size}
 use Rattle.zipper.proofs.Context.{bare-shared, fits-shared, defined-shared, plug-part, plug-keeps}
 use Rattle.zipper.proofs.Parts.{first-inside, bounds, focus-bare, focus-fits}
 use Rattle.zipper.proofs.Whole.{zip-flat, poised-whole, poised-own}
-use Rattle.zipper.proofs.Redex.{Applied, applied-at, added-at, chosen_at, abstraction-step, name-step, function-there, head-kind, head-name, head-abstraction, argument-kind, argument-number, redex-inside, three-kinds, facts, argument-part, room_small, room-large, contracted}
+use Rattle.zipper.proofs.Redexes.{Applied, applied-at, added-at, chosen_at, abstraction-step, name-step, function-there, head-kind, head-name, head-abstraction, argument-kind, argument-number, redex-inside, three-kinds, facts, argument-part, room_small, room-large, contracted}
 use Rattle.zipper.proofs.Sums.{added-step, first_read, second-read, added-inside, added-lands, second-step, third-step, number_read, third-lands, branch-ends, second-lands}
 use Rattle.script.specs.File.{program_in}
 use Rattle.machine.specs.Program.{code_in}
-use Rattle.machine.specs.Bodies.{BodyAt, Positions}
+use Rattle.machine.specs.Bodies.{body_of, BodyAt, Positions}
+use Rattle.machine.specs.declared.Body.{Body}
 use Rattle.machine.specs.Fire.{body_for, Source, Around, Ready, FiredIs, FitsIs}
 use Rattle.machine.specs.Choice.{Addends, summed, third_at, second_to, Fork, moved, ChoiceIs}
 use Rattle.machine.proofs.Strip.{stripped-from}
@@ -67,7 +69,7 @@ has_body C f h = on (C f) refl h
 -- ---- the body that a redex goes to
 
 -- What the application at p goes to: a body at its place, and the step of the whole.
-pub record Reduct (C : Codebase) (e s bodies : List ℕ) (p : ℕ) (K : List Frame) (v T : Term) : Type 0 where
+pub record Reduct (C : Codebase) (e s : List ℕ) (bodies : List Body) (p : ℕ) (K : List Frame) (v T : Term) : Type 0 where
   pub body : Term
   pub is : body_for e s bodies p ≡ body
   pub bare : Bare body
@@ -79,7 +81,7 @@ pub record Reduct (C : Codebase) (e s bodies : List ℕ) (p : ℕ) (K : List Fra
   pub source : Source e s bodies p
 
 -- A function that is called there has a body, …
-module _ (s : List ℕ) {e fs : List ℕ} {p l r n : ℕ} {T : Term} (h : Applied e fs p l r n T) (d : Defined (code_in s) T) (k : kind_at e (p + 1) ≡ 2) where
+module _ (s : List ℕ) {e : List ℕ} {fs : List Entry} {p l r n : ℕ} {T : Term} (h : Applied e fs p l r n T) (d : Defined (code_in s) T) (k : kind_at e (p + 1) ≡ 2) where
   -- … without its commands …
   pub called-code : HasBody (code_in s) (record_number e (p + 1))
   called-code =
@@ -96,7 +98,7 @@ module _ (s : List ℕ) {e fs : List ℕ} {p l r n : ℕ} {T : Term} (h : Applie
       let w = stripped-from (codebase (program_in s)) (record_number e (p + 1)) g.body g.is in
       record { body = w.body; is = w.has }
 
-module _ {e fs s bodies : List ℕ} {p l r n : ℕ} {T : Term} (h : Applied e fs p l r n T) (d : Defined (code_in s) T) (b : Positions s bodies) where
+module _ {e : List ℕ} {fs : List Entry} {s : List ℕ} {bodies : List Body} {p l r n : ℕ} {T : Term} (h : Applied e fs p l r n T) (d : Defined (code_in s) T) (b : Positions s bodies) where
   -- A function name's body lies in the script.
   name-reduct : kind_at e (p + 1) ≡ 2 → Reduct (code_in s) e s bodies p h.frames h.argument T
   unfolding body_for
@@ -104,7 +106,7 @@ module _ {e fs s bodies : List ℕ} {p l r n : ℕ} {T : Term} (h : Applied e fs
       let f : ℕ = record_number e (p + 1) in
       let q : h.function ≡ fun f = head-name h k in
       let g : HasBody (code_in s) f = called-code s h d k in
-      let a : BodyAt s (get_or bodies f 0) g.body = b.there f g.body g.is in
+      let a : BodyAt s (body_of bodies f).at g.body = b.there f g.body g.is in
       record {
         body = g.body;
         is = rw (eq-eqb (kind_at e (p + 1)) 2 k) (body-term a);
@@ -161,9 +163,9 @@ module _ {e fs s bodies : List ℕ} {p l r n : ℕ} {T : Term} (h : Applied e fs
 
 -- ---- where the body is read
 
-module _ (e s bodies : List ℕ) (p : ℕ) where
+module _ (e s : List ℕ) (bodies : List Body) (p : ℕ) where
   -- A called function's body: the number of its name, and its place.
-  pub body-called : kind_at e (p + 1) ≡ 2 → (m f at : ℕ) → m ≡ record_number e (p + 1) → f ≡ m → at ≡ get_or bodies f 0 → body_for e s bodies p ≡ term_at s at
+  pub body-called : kind_at e (p + 1) ≡ 2 → (m f at : ℕ) → m ≡ record_number e (p + 1) → f ≡ m → at ≡ (body_of bodies f).at → body_for e s bodies p ≡ term_at s at
   unfolding body_for
   body-called k m f at a b c = rw (eq-eqb (kind_at e (p + 1)) 2 k, c, b, a)
 
@@ -171,16 +173,6 @@ module _ (e s bodies : List ℕ) (p : ℕ) where
   pub body-applied : kind_at e (p + 1) ≡ 4 → body_for e s bodies p ≡ term_at e (p + 2)
   unfolding body_for
   body-applied k = rw k
-
-  module _ (h : Source e s bodies p) where
-    pub called-in : kind_at e (p + 1) ≡ 2 → (m f : ℕ) → m ≡ record_number e (p + 1) → f ≡ m → f < length bodies
-    called-in k m f a b = omega (arith, h.named k)
-
-    pub called-lies : kind_at e (p + 1) ≡ 2 → (m f at : ℕ) → m ≡ record_number e (p + 1) → f ≡ m → at ≡ get_or bodies f 0 → Lies s at (term_at s at)
-    called-lies k m f at a b c = rw (c, b, a) (h.called k)
-
-    pub source-none : (kind_at e (p + 1) ≡ 2 → ⊥) → (kind_at e (p + 1) ≡ 4 → ⊥) → ⊥
-    source-none a b = ⊎_elim a b h.kinds
 
 -- ---- the answers
 
@@ -196,12 +188,12 @@ module _ (w o : List ℕ) (x : Option ℕ) (o' : List ℕ) (g : WrittenIs w o 0 
   written-full d = rw d at g
 
 -- A step that was made in the buffer.
-pub record Landed (C : Codebase) (T : Term) (event : Event) (e' fs : List ℕ) (p r' n : ℕ) : Type 0 where
+pub record Landed (C : Codebase) (T : Term) (event : Event) (e' : List ℕ) (fs : List Entry) (p r' n : ℕ) : Type 0 where
   pub expr : Term
   pub steps : step C T ≡ next event expr
   pub zip : ZipOf e' fs p r' (n - 1) expr
 
-module _ {C : Codebase} {T : Term} {ev : Event} {e' fs : List ℕ} {p r' n : ℕ} (w : Landed C T ev e' fs p r' n) where
+module _ {C : Codebase} {T : Term} {ev : Event} {e' : List ℕ} {fs : List Entry} {p r' n : ℕ} (w : Landed C T ev e' fs p r' n) where
   -- No command is in the whole: all its records count.
   landed-small : size w.expr ≤ limit
   landed-small = let s = (zip-flat w.zip).sound in omega (arith, bare-size w.expr s.bare, s.small)
@@ -212,7 +204,7 @@ module _ {C : Codebase} {T : Term} {ev : Event} {e' fs : List ℕ} {p r' n : ℕ
 
 -- Made whatever entries hold T's frames, it is what firing answers.
 pub landed-fired : {C : Codebase} {T : Term} {e e' : List ℕ} {p l r r' : ℕ} → Ready C e p l r T
-    → ((fs : List ℕ) (n : ℕ) → Poised e fs p l r n T → (ev : Event) × Landed C T ev e' fs p r' n) → FiredIs T (step C T) p l r (Some r') e e'
+    → ((fs : List Entry) (n : ℕ) → Poised e fs p l r n T → (ev : Event) × Landed C T ev e' fs p r' n) → FiredIs T (step C T) p l r (Some r') e e'
 landed-fired {e' = e'} {p = p} {r' = r'} h go =
     let w = (go h.entries h.frames h.poised).1 in
     rw w.steps (
@@ -220,7 +212,7 @@ landed-fired {e' = e'} {p = p} {r' = r'} h go =
       λ fs n k. let v = (go fs n k).1 in subst (λ (t : Term). ZipOf e' fs p r' (n - 1) t) (next-same (sym v.steps ∙ w.steps)) v.zip,
     )
 
-module _ {e s bodies : List ℕ} {p l r : ℕ} {T : Term} (h : Ready (code_in s) e p l r T) (five : kind_at e p ≡ 5) (b : Positions s bodies) where
+module _ {e s : List ℕ} {bodies : List Body} {p l r : ℕ} {T : Term} (h : Ready (code_in s) e p l r T) (five : kind_at e p ≡ 5) (b : Positions s bodies) where
   -- The application.
   here : Applied e h.entries p l r h.frames T
   here = applied-at h.poised five
@@ -241,7 +233,7 @@ module _ {e s bodies : List ℕ} {p l r : ℕ} {T : Term} (h : Ready (code_in s)
     room = 8 * (1024 - (p + (3072 - end)))
 
     module _ (o : List ℕ) (x : Option ℕ) (o' : List ℕ) (g : WrittenIs (copied 0 (take (8 * end - 8 * r) (drop (8 * r) e)) (body_for e s bodies p)) o 0 x o') where
-      module _ {fs : List ℕ} {n : ℕ} (k : Applied e fs p l r n T) where
+      module _ {fs : List Entry} {n : ℕ} (k : Applied e fs p l r n T) where
         red : Reduct (code_in s) e s bodies p k.frames k.argument T
         red = reduct k h.defined b
 
@@ -328,7 +320,7 @@ module _ {e s bodies : List ℕ} {p l r : ℕ} {T : Term} (h : Ready (code_in s)
 
 -- ---- a sum and a branch
 
-module _ {e fs : List ℕ} {p l r n : ℕ} {T : Term} (h : Poised e fs p l r n T) where
+module _ {e : List ℕ} {fs : List Entry} {p l r n : ℕ} {T : Term} (h : Poised e fs p l r n T) where
   -- What `add` asks, …
   poised-addends : kind_at e p ≡ 9 → Addends e p r
   poised-addends k =
@@ -407,7 +399,7 @@ module _ {e : List ℕ} {p l r : ℕ} {T : Term} {C : Codebase} (h : Ready C e p
 
 -- ---- what a run makes of an answer
 
-module _ {e fs : List ℕ} {p l r n : ℕ} {T : Term} (C : Codebase) (h : Poised e fs p l r n T) where
+module _ {e : List ℕ} {fs : List Entry} {p l r n : ℕ} {T : Term} (C : Codebase) (h : Poised e fs p l r n T) where
   -- At a redex whose names are defined the step can be asked for.
   pub poised-ready : Defined C T → Ready C e p l r (whole_in e l r)
   poised-ready d = let w : whole_in e l r ≡ T = poised-whole h in record { entries = fs; frames = n; poised = poised-own h; defined = rw w d }
@@ -422,7 +414,7 @@ pub record Moves (C : Codebase) (T : Term) : Type 0 where
 pub record Moved (C : Codebase) (T : Term) (p l r r' : ℕ) (e e' : List ℕ) : Type 0 where
   pub move : Moves C T
   pub small : size move.expr ≤ limit
-  pub zip : (fs : List ℕ) (n : ℕ) → Poised e fs p l r n T → ZipOf e' fs p r' (n - 1) move.expr
+  pub zip : (fs : List Entry) (n : ℕ) → Poised e fs p l r n T → ZipOf e' fs p r' (n - 1) move.expr
 
 -- … or was too large to be made.
 pub record Large (C : Codebase) (T : Term) (e e' : List ℕ) : Type 0 where
@@ -447,7 +439,7 @@ pub record Stepped (C : Codebase) (e : List ℕ) (p r : ℕ) (T : Term) : Type 0
   pub called : Calls e p → Called e p r move.event
   pub silent : (Calls e p → ⊥) → move.event ≡ quiet
 
-module _ {e fs s bodies : List ℕ} {p l r n : ℕ} {T : Term} (h : Poised e fs p l r n T) (d : Defined (code_in s) T) (b : Positions s bodies) where
+module _ {e : List ℕ} {fs : List Entry} {s : List ℕ} {bodies : List Body} {p l r n : ℕ} {T : Term} (h : Poised e fs p l r n T) (d : Defined (code_in s) T) (b : Positions s bodies) where
   -- A sum or a branch calls nothing.
   quietly : {e' : List ℕ} {r' : ℕ} → Landed (code_in s) T quiet e' fs p r' n → (kind_at e p ≡ 5 → ⊥) → Stepped (code_in s) e p r T
   quietly w k = record {

@@ -1,5 +1,5 @@
 -- What firing a redex does, by the calculus's step. Assumes nothing.
-use Rattle.std.specs.Prelude.{Bool, cond, List, ◌⊎◌, ◌≡◌, ℕ, ◌+◌, ◌-◌, ◌*◌, ◌<◌, ◌≤◌, eqb, leb, length, get_or, Option, Some, None}
+use Rattle.std.specs.Prelude.{Bool, cond, List, ◌⊎◌, ◌≡◌, ℕ, ◌+◌, ◌-◌, ◌*◌, ◌<◌, ◌≤◌, eqb, leb, length, Option, Some, None}
 use Rattle.calculus.specs.Term.{Term, Codebase, Defined, size}
 use Rattle.calculus.specs.Step.{Next}
 use Rattle.calculus.specs.Step.Next.{at_value, at_stuck, next}
@@ -7,18 +7,21 @@ use Rattle.calculus.specs.Run.{limit}
 use Rattle.terms.specs.Record.{count, kind_at, record_number}
 use Rattle.terms.specs.Read.{term_at}
 use Rattle.substitution.specs.Copied.{Lies}
+use Rattle.zipper.specs.declared.Entry.{Entry}
 use Rattle.zipper.specs.Zipper.{end_at, ZipOf, Poised}
+use Rattle.machine.specs.Bodies.{body_of}
+use Rattle.machine.specs.declared.Body.{Body}
 
 -- The record of a called function's body.
-abbrev pub called_at : List ℕ → List ℕ → ℕ → ℕ
-called_at e bodies p = get_or bodies (record_number e (p + 1)) 0
+abbrev pub called_at : List ℕ → List Body → ℕ → ℕ
+called_at e bodies p = (body_of bodies (record_number e (p + 1))).at
 
 -- The body that the redex at record p goes to: the called function's in the script, or the abstraction's in the expression.
-unfoldable pub body_for : List ℕ → List ℕ → List ℕ → ℕ → Term
+unfoldable pub body_for : List ℕ → List ℕ → List Body → ℕ → Term
 body_for e s bodies p = cond (eqb (kind_at e (p + 1)) 2) (term_at s (called_at e bodies p)) (term_at e (p + 2))
 
 -- That body lies there.
-pub record Source (e s bodies : List ℕ) (p : ℕ) : Type 0 where
+pub record Source (e s : List ℕ) (bodies : List Body) (p : ℕ) : Type 0 where
   pub inside : p + 1 < count e
   pub kinds : (kind_at e (p + 1) ≡ 2) ⊎ (kind_at e (p + 1) ≡ 4)
   pub named : kind_at e (p + 1) ≡ 2 → record_number e (p + 1) < length bodies
@@ -42,7 +45,7 @@ pub record RoomIs (e : List ℕ) (p r end room : ℕ) : Type 0 where
 
 -- The buffers hold T at its next redex, and all its function names are defined.
 pub record Ready (C : Codebase) (e : List ℕ) (p l r : ℕ) (T : Term) : Type 0 where
-  pub entries : List ℕ
+  pub entries : List Entry
   pub frames : ℕ
   pub poised : Poised e entries p l r frames T
   pub defined : Defined C T
@@ -52,7 +55,7 @@ pub record Ready (C : Codebase) (e : List ℕ) (p l r : ℕ) (T : Term) : Type 0
 abbrev pub FiredIs : Term → Next → ℕ → ℕ → ℕ → Option ℕ → List ℕ → List ℕ → Type 0
 FiredIs T at_value p l r x e e' = ⊥
 FiredIs T at_stuck p l r x e e' = ⊥
-FiredIs T (next ev T') p l r (Some r') e e' = (size T' ≤ limit) × ((fs : List ℕ) (n : ℕ) → Poised e fs p l r n T → ZipOf e' fs p r' (n - 1) T')
+FiredIs T (next ev T') p l r (Some r') e e' = (size T' ≤ limit) × ((fs : List Entry) (n : ℕ) → Poised e fs p l r n T → ZipOf e' fs p r' (n - 1) T')
 FiredIs T (next ev T') p l r None e e' = (limit < size T') × (e' ≡ e)
 
 -- Whether T's step leaves at most 1,024 records.

@@ -3,3 +3,4 @@ pub mod Bodies
 pub mod Fire
 pub mod Choice
 pub mod Outcome
+pub mod Once

@@ -13,8 +13,11 @@ ghost use Rattle.machine.specs.Bodies.{commands_at, Positions, Found};
 ghost use Rattle.machine.specs.Fire.{body_for, Source, Around, RoomIs, Ready, FiredIs, FitsIs};
 ghost use Rattle.machine.specs.Choice.{Addends, summed, Fork, ChoiceIs};
 ghost use Rattle.machine.specs.Outcome.{outcome_number};
+ghost use Rattle.machine.specs.Once.{Positions-prop};
 
+use history::Commands;
 use words::Number;
+use zipper::Redex;
 
 // How a run ends.
 #[derive(Clone, Copy, PartialEq, Eq, Debug)]
@@ -41,115 +44,131 @@ impl From<Outcome> for u32 {
     }
 }
 
-// How many commands the body at a record begins with: none, 6, or 6 and 7. Each has an argument of one record.
-fn commands(s: &[u8], body: usize) -> u8
+// Where a function's body begins after its commands, and these.
+#[derive(Clone, Copy)]
+pub struct Body {
+    pub at: u32,
+    pub commands: Commands,
+}
+
+// What stands where no function's body is found.
+pub const NO_BODY: Body = Body {
+    at: 0,
+    commands: Commands::None,
+};
+
+// The code that a run goes by: a script, and where the bodies of its functions begin.
+#[derive(Clone, Copy)]
+pub struct Code<'a> {
+    pub script: &'a [u8],
+    pub bodies: &'a [Body],
+    pub ghost positions: { Positions script.now bodies.now } by { Positions-prop script.now bodies.now },
+}
+
+// The commands that the body at a record begins with. Each has an argument of one record.
+fn commands(s: &[u8], body: usize) -> Commands
     requires body_in_bounds { 8 * body < length s.now }
     requires second_in_bounds { kind_at s.now body ≡ 6 → 8 * (body + 2) < length s.now }
     ensures { result ≡ commands_at s.now body }
 {
     if s[8 * body] != 6 {
-        return 0;
+        return Commands::None;
     }
     if s[8 * (body + 2)] != 7 {
-        return 1;
+        return Commands::Note;
     }
-    2
+    Commands::NoteAndLog
 }
 
-// Finds for each function the record where its body begins after its commands, and how many these are; and the main term's record. What is
-// accepted for any purpose is so for the rewritten run (proofs/Program.formed-any).
-pub fn find_bodies(script: &[u8], bodies: &mut [u32], marks: &mut [u8]) -> usize
+// Finds for each function the record where its body begins after its commands, and these; and the main term's record. What is accepted for any
+// purpose is so for the rewritten run (proofs/Program.formed-any). The slice is lent and may be longer: an array would ask more of a caller.
+pub fn find_bodies(script: &[u8], bodies: &mut [Body]) -> usize
     requires formed { Formed RewrittenRun script.now }
     requires bodies_room { 128 ≤ length bodies.old }
-    requires marks_room { 128 ≤ length marks.old }
-    ensures { Found script.now bodies.new marks.new result }
+    ensures { Found script.now bodies.new result }
 {
     let mut at = 0;
     let mut f = 0;
     // By whole terms and not by one: no `for` counts this.
     while script[8 * at] == 8 {
-        let mark = commands(script, at + 1);
-        bodies[f] = (at + 1 + 2 * usize::from(mark)) as u32;
-        marks[f] = mark;
+        let commands = commands(script, at + 1);
+        bodies[f] = Body {
+            at: (at + 1 + 2 * commands.count()) as u32,
+            commands,
+        };
         f += 1;
         at = zipper::end_of(script, at + 1);
     }
     at
 }
 
-// Writes the body that a redex goes to to the start of out, with the argument, e's bytes from..to, put into it: the called function's body from
+// Writes the body that the application at record p goes to to the start of out, with the argument put into it: the called function's body from
 // the script, or the abstraction's from the expression. Says where it ends, if out has room for it.
 fn reduce(
     e: &[u8],
     p: usize,
-    from: usize,
-    to: usize,
-    script: &[u8],
-    bodies: &[u32],
+    argument: &[u8],
+    code: &Code<'_>,
     out: &mut [u8],
     st: &mut [u16],
 ) -> Option<usize>
-    requires source { Source e.now script.now bodies.now p }
-    requires from_le_to { from ≤ to }
-    requires to_in_bounds { to ≤ length e.now }
+    requires source { Source e.now code.now.script.now code.now.bodies.now p }
     requires stack_room { 1024 ≤ length st.old }
-    ensures { WrittenIs (copied 0 (take (to - from) (drop from e.now)) (body_for e.now script.now bodies.now p)) out.old 0 result out.new }
+    ensures { WrittenIs (copied 0 argument.now (body_for e.now code.now.script.now code.now.bodies.now p)) out.old 0 result out.new }
 {
     let kind = e[8 * (p + 1)];
     match kind {
         2 => {
             let f = terms::number(e, p + 1) as usize;
-            substitution::substitute(script, bodies[f] as usize, &e[from..to], out, st)
+            substitution::substitute(code.script, code.bodies[f].at as usize, argument, out, st)
         }
-        4 => substitution::substitute(e, p + 2, &e[from..to], out, st),
+        4 => substitution::substitute(e, p + 2, argument, out, st),
         // Nothing else is applied.
-        _ => None,
+        _ => unreachable!(),
     }
 }
 
-// Where the argument at record r ends, and the bytes that 1,024 records leave for the result of the application at record p.
-fn room(e: &[u8], p: usize, r: usize) -> (usize, usize)
-    requires { Around e.now p r }
-    ensures { RoomIs e.now p r result.0 result.1 }
+// Where an application's argument ends, and the bytes that 1,024 records leave for its result.
+fn room(e: &[u8], redex: Redex) -> (usize, usize)
+    requires { Around e.now redex.p redex.gap.r }
+    ensures { RoomIs e.now redex.p redex.gap.r result.0 result.1 }
 {
-    let end = zipper::end_of(e, r);
-    let room = 8 * (1024 - (p + (3072 - end)));
+    let end = zipper::end_of(e, redex.gap.r);
+    let room = 8 * (1024 - (redex.p + (3072 - end)));
     (end, room)
 }
 
-// Fires the application at record p, its function below l and its argument at r, and says where the next focus begins. The result goes to
-// scratch first: where it would leave over 1,024 records in all, nothing has changed yet.
+// Fires an application and says where the next focus begins. The result goes to scratch first: where it would leave over 1,024 records in all,
+// nothing has changed yet.
 fn apply(
     e: &mut [u8],
     scratch: &mut [u8],
     st: &mut [u16],
-    script: &[u8],
-    bodies: &[u32],
-    p: usize,
-    l: usize,
-    r: usize,
+    code: &Code<'_>,
+    redex: Redex,
 ) -> Option<usize>
-    requires ready { Ready (code_in script.now) e.old p l r (whole_in e.old l r) }
-    requires p_value { kind_at e.old p ≡ 5 }
-    requires positions { Positions script.now bodies.now }
+    requires ready { Ready (code_in code.now.script.now) e.old redex.p redex.gap.l redex.gap.r (whole_in e.old redex.gap.l redex.gap.r) }
+    requires p_value { kind_at e.old redex.p ≡ 5 }
     requires scratch_room { 24576 ≤ length scratch.old }
     requires stack_room { 1024 ≤ length st.old }
-    ensures { FiredIs (whole_in e.old l r) (step (code_in script.now) (whole_in e.old l r)) p l r result e.old e.new }
+    ensures { FiredIs (whole_in e.old redex.gap.l redex.gap.r) (step (code_in code.now.script.now) (whole_in e.old redex.gap.l redex.gap.r)) redex.p redex.gap.l redex.gap.r result e.old e.new }
 {
-    let (end, room) = room(e, p, r);
+    let (end, room) = room(e, redex);
     let out = &mut scratch[..room];
-    let q = reduce(e, p, 8 * r, 8 * end, script, bodies, out, st)?;
+    let whole = &e[..];
+    let argument = &whole[8 * redex.gap.r..8 * end];
+    let q = reduce(whole, redex.p, argument, code, out, st)?;
     words::copy(e, 8 * end - q, out, 0, q);
     Some(end - q / 8)
 }
 
-// Adds the two constants of the sum at record p: their sum takes the place of the second, at r.
-fn add(e: &mut [u8], p: usize, r: usize)
-    requires { Addends e.old p r }
-    ensures { e.new ≡ summed e.old p r }
+// Adds the two constants of a sum: their sum takes the place of the second, at the focus.
+fn add(e: &mut [u8], redex: Redex)
+    requires { Addends e.old redex.p redex.gap.r }
+    ensures { e.new ≡ summed e.old redex.p redex.gap.r }
 {
-    let total = terms::number(e, p + 1) + terms::number(e, r);
-    total.write(e, 8 * r + 4);
+    let total = terms::number(e, redex.p + 1) + terms::number(e, redex.gap.r);
+    total.write(e, 8 * redex.gap.r + 4);
 }
 
 // Chooses a term of the branch whose first, a constant, is at record r, and says where it begins: on 0 the second, which is moved to end where
@@ -168,67 +187,46 @@ fn choose(e: &mut [u8], r: usize) -> usize
     to
 }
 
-// Fires the redex at record p: what is done of it below l, the focus at r. Says where the next focus begins, if the step leaves at most 1,024
-// records in all: a sum and a branch leave fewer than they have.
+// Fires a redex: what is done of it ends where the gap begins, and the focus begins where the gap ends. Says where the next focus begins, if the
+// step leaves at most 1,024 records in all: a sum and a branch leave fewer than they have. Scratch and stack are lent, as a step allocates
+// nothing; as slices, since an array would ask more of a caller.
 pub fn fire(
     e: &mut [u8],
     scratch: &mut [u8],
     st: &mut [u16],
-    script: &[u8],
-    bodies: &[u32],
-    p: usize,
-    l: usize,
-    r: usize,
+    code: &Code<'_>,
+    redex: Redex,
 ) -> Option<usize>
-    requires ready { Ready (code_in script.now) e.old p l r (whole_in e.old l r) }
-    requires positions { Positions script.now bodies.now }
+    requires ready { Ready (code_in code.now.script.now) e.old redex.p redex.gap.l redex.gap.r (whole_in e.old redex.gap.l redex.gap.r) }
     requires scratch_room { 24576 ≤ length scratch.old }
     requires stack_room { 1024 ≤ length st.old }
-    ensures { FiredIs (whole_in e.old l r) (step (code_in script.now) (whole_in e.old l r)) p l r result e.old e.new }
+    ensures { FiredIs (whole_in e.old redex.gap.l redex.gap.r) (step (code_in code.now.script.now) (whole_in e.old redex.gap.l redex.gap.r)) redex.p redex.gap.l redex.gap.r result e.old e.new }
 {
-    let kind = e[8 * p];
+    let kind = e[8 * redex.p];
     match kind {
-        5 => apply(e, scratch, st, script, bodies, p, l, r),
+        5 => apply(e, scratch, st, code, redex),
         9 => {
-            add(e, p, r);
-            Some(r)
+            add(e, redex);
+            Some(redex.gap.r)
         }
-        10 => Some(choose(e, r)),
+        10 => Some(choose(e, redex.gap.r)),
         // No other kind begins a redex.
-        _ => None,
+        _ => unreachable!(),
     }
 }
 
 // Whether the redex's result leaves at most 1,024 records in all, as that of a sum or a branch does; the expression stays as it is.
-pub fn fits(
-    e: &[u8],
-    scratch: &mut [u8],
-    st: &mut [u16],
-    script: &[u8],
-    bodies: &[u32],
-    p: usize,
-    l: usize,
-    r: usize,
-) -> bool
-    requires ready { Ready (code_in script.now) e.now p l r (whole_in e.now l r) }
-    requires positions { Positions script.now bodies.now }
+pub fn fits(e: &[u8], scratch: &mut [u8], st: &mut [u16], code: &Code<'_>, redex: Redex) -> bool
+    requires ready { Ready (code_in code.now.script.now) e.now redex.p redex.gap.l redex.gap.r (whole_in e.now redex.gap.l redex.gap.r) }
     requires scratch_room { 24576 ≤ length scratch.old }
     requires stack_room { 1024 ≤ length st.old }
-    ensures { FitsIs (step (code_in script.now) (whole_in e.now l r)) result }
+    ensures { FitsIs (step (code_in code.now.script.now) (whole_in e.now redex.gap.l redex.gap.r)) result }
 {
-    if e[8 * p] != 5 {
+    if e[8 * redex.p] != 5 {
         return true;
     }
-    let (end, room) = room(e, p, r);
-    reduce(
-        e,
-        p,
-        8 * r,
-        8 * end,
-        script,
-        bodies,
-        &mut scratch[..room],
-        st,
-    )
-    .is_some()
+    let (end, room) = room(e, redex);
+    let argument = &e[8 * redex.gap.r..8 * end];
+    let out = &mut scratch[..room];
+    reduce(e, redex.p, argument, code, out, st).is_some()
 }

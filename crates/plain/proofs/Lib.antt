@@ -1,3 +1,4 @@
 pub mod Refusals
+pub mod Resting
 pub mod Going
 pub mod Ends

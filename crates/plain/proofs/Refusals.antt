@@ -10,7 +10,6 @@ use Rattle.refusal.specs.declared.Refusal.{Refusal}
 use Rattle.refusal.specs.Refusal.{Verdict, verdict, accepted, due_if, refuse_if, refused_as, refused-some, refuse-zero, not-due}
 use Rattle.script.specs.Check.{script_verdict}
 use Rattle.script.specs.declared.Purpose.TheVariants as purposes
-use Rattle.script.proofs.Accepted.{script-zero}
 use Rattle.plain.specs.Answer.{buffer_size, most_budget, run_due, plain_due}
 
 -- ---- what is due

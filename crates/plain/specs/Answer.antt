@@ -1,5 +1,5 @@
 -- What the plain run answers, and what it leaves in its buffers. Assumes nothing.
-use Rattle.std.specs.Prelude.{Bool, cond, ◌||◌, List, [], ◌≡◌, ℕ, eqb, ltb, length, Ok, Err}
+use Rattle.std.specs.Prelude.{Bool, cond, ◌||◌, List, [], ◌≡◌, ℕ, eqb, ltb, length, Option, Some, None, Ok, Err}
 use Rattle.std.specs.Prelude as prelude
 use Rattle.words.specs.Filled.{filled}
 use Rattle.calculus.specs.Run.{Result, Conf, plain_run}
@@ -11,7 +11,13 @@ use Rattle.script.specs.declared.Purpose.TheVariants as purposes
 use Rattle.zipper.specs.Zipper.{Flat}
 use Rattle.script.specs.File.{program_in}
 use Rattle.machine.specs.Outcome.{outcome_of, outcome_number}
+use Rattle.zipper.specs.declared.Gap.{Gap}
+use Rattle.zipper.specs.declared.Redex.{Redex}
+use Rattle.zipper.specs.declared.Sought.{Sought}
+use Rattle.zipper.specs.declared.Sought.TheVariants as sought
 use Rattle.machine.specs.declared.Outcome.{Outcome}
+use Rattle.machine.specs.declared.Outcome.TheVariants as outcome
+use Rattle.plain.specs.declared.Counts.{Counts}
 use Rattle.plain.specs.declared.Ran as made
 use Rattle.plain.specs.declared.Rest.{Rest}
 
@@ -81,11 +87,24 @@ plain_of s budget e c = answered (plain_due s budget (length e) (length c)) (pla
 
 -- ---- between the parts of the program
 
-abbrev pub rested : Outcome → ℕ → ℕ → ℕ → Rest
-rested o k l r = record { outcome = o; steps = k; l = l; r = r }
+-- Where a run rests, if it ends here.
+abbrev pub rested : {C : Type 0} → Outcome → C → Gap → Rest C
+rested o k g = record { outcome = o; counts = k; gap = g }
+
+-- The redex that is due after a search: none at a value and where the expression is stuck, and none where the budget is spent.
+abbrev pub due_of : Sought → Bool → Option Redex
+due_of (sought.Value g) b = None
+due_of (sought.Stuck g) b = None
+due_of (sought.Redex x) b = cond b None (Some x)
+
+-- Where a run rests that makes no step after a search.
+abbrev pub rest_of : {C : Type 0} → Sought → C → Rest C
+rest_of (sought.Value g) k = rested outcome.Value k g
+rest_of (sought.Stuck g) k = rested outcome.Stuck k g
+rest_of (sought.Redex x) k = rested outcome.Spent k x.gap
 
 -- Where a run rests: its outcome, its steps, and its last expression in the two parts.
-pub record Rested (R : Result Conf) (x : Rest) (e : List ℕ) : Type 0 where
+pub record Rested (R : Result Conf) (x : Rest Counts) (e : List ℕ) : Type 0 where
   pub outcome : x.outcome ≡ outcome_of R.outcome
-  pub steps : x.steps ≡ R.last.time
-  pub flat : Flat e x.l x.r R.last.expr
+  pub steps : x.counts.steps ≡ R.last.time
+  pub flat : Flat e x.gap.l x.gap.r R.last.expr

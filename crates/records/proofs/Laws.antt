@@ -1,4 +1,4 @@
--- What deriving answers and leaves. Assumes nothing.
+-- What the entries answer, and what deriving leaves. Assumes nothing.
 use mathlib.Core.List.{List}
 use mathlib.Core.Path.{◌≡◌, refl, sym, ap, ◌∙◌}
 use Prim.Native.Nat.{ℕ, ◌<◌, ◌≤◌}
@@ -6,11 +6,21 @@ use native.Mathlib.Omega.{arith}
 use lib.ListN.{length}
 use borrow.Author.Tests.{ne_eqb, lt-ltb, le-ltb}
 use Rattle.words.specs.Filled.{filled}
-use Rattle.refusal.specs.Refusal.{Verdict, verdict, accepted, refuse-due, refuse-not}
+use Rattle.std.specs.Prelude.{Result, Ok, Err}
+use Rattle.refusal.specs.declared.Refusal.{Refusal}
+use Rattle.refusal.specs.Refusal.{Verdict, verdict, accepted, refused_as, verdict_of, refuse-due, refuse-not}
 use Rattle.guideline.specs.Read.{guideline_of}
 use Rattle.guideline.specs.Check.{file_verdict}
 use Rattle.predicates.specs.Table.{table_of}
 use Rattle.records.specs.Entries.{derive_verdict, leaves, derive_by, derive_of}
+
+-- The verdict of a check that refused, and of one that did not.
+module _ {T : Type 0} {a : Result T Refusal} {v : Verdict} where
+  pub verdict-err : {r : Refusal} → a ≡ Err r → verdict_of a ≡ v → refused_as r ≡ v
+  verdict-err q e = sym (ap verdict_of q) ∙ e
+
+  pub verdict-ok : {x : T} → a ≡ Ok x → verdict_of a ≡ v → accepted ≡ v
+  verdict-ok q e = sym (ap verdict_of q) ∙ e
 
 refused-by : (v : Verdict) (g t : List ℕ) → (v.number ≡ 0 → ⊥) → leaves t v ≡ derive_by v g t
 unfolding derive_by

@@ -15,8 +15,8 @@ use script::Purpose;
 pub fn check(script: &[u8], guideline: &[u8]) -> Result<(), Refusal>
     ensures { verdict_of result ≡ check_of script.now guideline.now }
 {
-    script::check_script(script, Purpose::Checking)?;
-    guideline::check_guideline(guideline, script::definitions(script) as u32)
+    let definitions = script::check_script(script, Purpose::Checking)?;
+    guideline::check_guideline(guideline, definitions)
 }
 
 // Writes the derived predicates of a guideline into the table.

@@ -37,11 +37,6 @@ due_below m n = cond (ltb m n) (Some m) None
 abbrev pub found_below : (ℕ → Bool) → ℕ → Option ℕ
 found_below p n = due_below (first_below p n) n
 
--- The first of two searches that is due.
-abbrev pub or_else : Option ℕ → Option ℕ → Option ℕ
-or_else None q = q
-or_else (Some p) q = Some p
-
 -- The first verdict where it refuses, else the second.
 unfoldable pub and_then : Verdict → Verdict → Verdict
 and_then v w = cond (eqb v.number 0) w v
@@ -79,8 +74,8 @@ refusal_at r p = record { reason = r; place = p }
 abbrev pub refused_as : Refusal → Verdict
 refused_as r = verdict (number_of r.reason) r.place
 
--- The verdict that a check's answer says.
-abbrev pub verdict_of : Result (Unit {0}) Refusal → Verdict
+-- The verdict that a check's answer says, whatever else it answers of what it accepts.
+abbrev pub verdict_of : {T : Type 0} → Result T Refusal → Verdict
 verdict_of (Ok u) = accepted
 verdict_of (Err r) = refused_as r
 

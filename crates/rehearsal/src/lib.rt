@@ -9,6 +9,7 @@ use refusal::Refusal;
 use rewritten::Ran;
 
 // Rewrites the script into `out` and runs it, with all refusals tested before anything is written: 22, 23, then those of rewriting.
+// The parameters are those of the C interface.
 pub fn rehearse(
     script: &[u8],
     guideline: &[u8],

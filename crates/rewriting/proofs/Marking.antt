@@ -4,12 +4,15 @@ use mathlib.Core.List.Memᴰ
 use mathlib.Core.List.{List, [], ◌∷◌, Memᴰ}
 use mathlib.Core.Logic.{◌⊎◌, inl, inr, ⊎_elim}
 use mathlib.Core.Path.{◌≡◌, refl, sym, ap, ◌∙◌}
-use Prim.Native.Nat.{ℕ, zero, suc, ◌+◌, ◌-◌, ◌<◌, ◌≤◌}
+use Prim.Native.Nat.{ℕ, zero, suc, ◌+◌, ◌*◌, ◌<◌, ◌≤◌}
 use native.Mathlib.Omega.{arith}
 use native.Mathlib.Numerals.{add-one}
 use lib.Dec.{T, eqb}
-use lib.ListN.{get_or, set, replicate, length-set, length-replicate, get_or-replicate}
+use lib.ListN.{length, get_or, set, take, drop, replicate, length-set, length-replicate, get_or-replicate}
 use lib.Seq.{get_or-set_same, get_or-set_other}
+use Rattle.std.specs.List.{sum}
+use Rattle.std.proofs.lemmas.List.{drop_more}
+use Rattle.std.proofs.lemmas.List.Sums.{sum_by-cons}
 use borrow.Author.Tests.{eqb-true, eqb-false, eq-eqb, ne_eqb, lt-ltb, le-ltb}
 use Rattle.calculus.specs.Lists.{each, among}
 use Rattle.calculus.specs.Guideline.{Guideline, Condition, Clause}
@@ -38,14 +41,14 @@ marks-none g = record { size = length-replicate 128 zero; mark = λ f h. get_or-
 
 module _ {g : List ℕ} {i : ℕ} {ms : List ℕ} (h : Marks g i ms) {f : ℕ} (is_f : f ≡ first_number g i) where
   -- A record names a function: its mark is looked at again.
-  pub marks-on : {k v : ℕ} → f < 128 → k ≡ kind_of g i → v ≡ later (get_or ms f 0) k → Marks g (i + 1) (set ms f v)
+  pub marks-on : {v : ℕ} → f < 128 → v ≡ later (get_or ms f 0) (kind_of g i) → Marks g (i + 1) (set ms f v)
   unfolding mark_below
-  marks-on {k} {v} l is-k is-v = record { size = length-set ms f v ∙ h.size; mark = λ x m. rw (add-one i) (on x m (eqb (first_number g i) x) refl) }
+  marks-on {v} l is-v = record { size = length-set ms f v ∙ h.size; mark = λ x m. rw (add-one i) (on x m (eqb (first_number g i) x) refl) }
     where
       on : (x : ℕ) → x < 128 → (b : Bool) → eqb (first_number g i) x ≡ b → get_or (set ms f v) x 0 ≡ cond b (later (mark_below g x i) (kind_of g i)) (mark_below g x i)
       on x m true e =
           let q : f ≡ x = is_f ∙ eqb-true (first_number g i) x e in
-          ap (λ (y : ℕ). get_or (set ms f v) y 0) (sym q) ∙ get_or-set_same ms f v 0 (omega (arith, h.size)) ∙ is-v ∙ rw (h.mark f l, is-k, q)
+          ap (λ (y : ℕ). get_or (set ms f v) y 0) (sym q) ∙ get_or-set_same ms f v 0 (omega (arith, h.size)) ∙ is-v ∙ rw (h.mark f l, q)
       on x m false e =
           let q : x ≡ f → ⊥ = λ z. eqb-false (first_number g i) x e (sym is_f ∙ sym z) in
           get_or-set_other ms f x v 0 q ∙ h.mark x m
@@ -55,36 +58,16 @@ module _ {g : List ℕ} {i : ℕ} {ms : List ℕ} (h : Marks g i ms) {f : ℕ} (
   unfolding mark_below
   marks-past l = record { size = h.size; mark = λ x m. rw (add-one i, ne_eqb (first_number g i) x (λ z. omega arith)) (h.mark x m) }
 
--- ---- one record's mark
-
--- Kinds 5 and 9 leave the mark of a logged function …
-pub later-logged : (m k : ℕ) → (k ≡ 5) ⊎ (k ≡ 9) → m ≡ 4 → 4 ≡ later m k
-unfolding later
-later-logged m k (inl e) h = rw (e, h)
-later-logged m k (inr e) h = rw (e, h)
-
--- … and mark any other.
-pub later-noted : (m k : ℕ) → (k ≡ 5) ⊎ (k ≡ 9) → (m ≡ 4 → ⊥) → 2 ≡ later m k
-unfolding later
-later-noted m k (inl e) h = rw (e, ne_eqb m 4 h)
-later-noted m k (inr e) h = rw (e, ne_eqb m 4 h)
-
 -- ---- their sum
 
-module _ (ms : List ℕ) (n : ℕ) where
-  -- No mark is added yet.
-  pub gains-none : 0 + gains ms 0 (n - 0) ≡ gains ms 0 n
-  gains-none = let q : n - 0 ≡ n = omega arith in rw q (omega arith)
-
-  -- One mark more.
-  pub gains-more : (f : ℕ) → f < n → gains ms f (n - f) ≡ get_or ms f 0 + gains ms (f + 1) (n - (f + 1))
-  unfolding gains
-  gains-more f l = let q : n - f ≡ suc (n - (f + 1)) = omega arith in rw q
-
-  -- None is left.
-  pub gains-end : (f : ℕ) → n ≤ f → gains ms f (n - f) ≡ 0
-  unfolding gains
-  gains-end f l = let q : n - f ≡ 0 = omega arith in rw q
+-- The sum of n marks from function f on, each of one byte.
+pub gains-sum : (ms : List ℕ) → ((i : ℕ) → get_or ms i 0 < 256) → (f n : ℕ) → f + n ≤ length ms → (sum (take n (drop f ms)) ≡ gains ms f n) × (sum (take n (drop f ms)) ≤ 255 * n)
+unfolding gains
+gains-sum ms b f zero l = (refl, omega arith)
+gains-sum ms b f (suc n) l =
+    let h = gains-sum ms b (f + 1) n (omega arith) in
+    let e = sum_by-cons (λ (x : ℕ). x) (get_or ms f 0) (take n (drop (f + 1) ms)) in
+    rw (drop_more ms f 0 (omega arith)) (omega (arith, e, h), omega (arith, e, h, b f))
 
 -- ---- a definition's mark
 

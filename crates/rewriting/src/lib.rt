@@ -4,11 +4,13 @@
 ghost use Rattle.std.specs.Prelude.{◌≡◌, ◌+◌, ◌*◌, ◌<◌, ◌≤◌, length};
 ghost use Rattle.words.specs.Put.{put};
 ghost use Rattle.terms.specs.Record.{count};
-ghost use Rattle.guideline.specs.Record.{count as record_count};
+ghost use Rattle.guideline.specs.Record.{count as record_count, kind_at};
 ghost use Rattle.rewriting.specs.Answer.{after, answer_of, rewriting};
 ghost use Rattle.rewriting.specs.Marks.{later, Marks, gains};
 ghost use Rattle.rewriting.specs.Grown.{gain_at, command, commands, grown};
 
+use guideline::kind::Kind;
+use guideline::record;
 use refusal::{Reason, Refusal};
 use script::Purpose;
 use words::Number;
@@ -17,14 +19,16 @@ use words::Number;
 
 // A mark is the very count of records, 0, 2 or 4, that is added up below: an enum would need a method that gives the same number back.
 
-// A function's mark after a guideline record of that kind that names it: 4 records gained by a logged function, 2 by any other trigger, as
+// A function's mark after record i of the guideline, which names it: 4 records gained by a logged function, 2 by any other trigger, as
 // which the function of kind 9 counts.
-fn marked(mark: u8, kind: u8) -> u8
-    ensures { result ≡ later mark kind }
+#[tactic(auto, unfolding(crate::specs::Marks::later))]
+fn marked(mark: u8, g: &[u8], i: usize) -> u8
+    requires { i < record_count g.now }
+    ensures { result ≡ later mark (kind_at g.now i) }
 {
-    match kind {
-        4 => 4,
-        5 | 9 => if mark == 4 { 4 } else { 2 },
+    match record::kind_of(g, i) {
+        Ok(Kind::LoggedHead) => 4,
+        Ok(Kind::Trigger | Kind::NoneSince) => if mark == 4 { 4 } else { 2 },
         _ => mark,
     }
 }
@@ -34,10 +38,10 @@ fn marks_of(g: &[u8]) -> [u8; 128]
     ensures { Marks g.now (record_count g.now) result }
 {
     let mut marks = [0; 128];
-    for i in 0..guideline::record::count(g) {
-        let f = guideline::record::first_number(g, i) as usize;
+    for i in 0..record::count(g) {
+        let f = record::first_number(g, i) as usize;
         if f < 128 {
-            marks[f] = marked(marks[f], guideline::record::kind(g, i));
+            marks[f] = marked(marks[f], g, i);
         }
     }
     marks
@@ -48,14 +52,11 @@ fn gained(marks: &[u8; 128], n: usize) -> usize
     requires { n ≤ 128 }
     ensures { (result ≡ gains marks.now 0 n) × (result ≤ 255 * n) }
 {
-    let mut sum = 0;
-    for f in 0..n {
-        sum += usize::from(marks[f]);
-    }
-    sum
+    marks[..n].iter().map(|&mark| usize::from(mark)).sum()
 }
 
-// The mark of the function that is defined at a record; 0 at any other record.
+// How many records are gained after a record: the mark of the function that is defined there. Any other record gains none, and 0 is
+// that count, not a number that stands for "no mark".
 fn gain_at(marks: &[u8; 128], s: &[u8], i: usize) -> u8
     requires { i < count s.now }
     ensures { result ≡ gain_at marks.now s.now i }
@@ -119,11 +120,10 @@ fn write(s: &[u8], marks: &[u8; 128], out: &mut [u8])
 pub fn rewrite(script: &[u8], guideline: &[u8], out: &mut [u8]) -> Result<u32, Refusal>
     ensures { after out.new (answer_of result) ≡ rewriting script.now guideline.now out.old }
 {
-    script::check_script(script, Purpose::Rewriting)?;
-    let definitions = script::definitions(script);
-    guideline::check_guideline(guideline, definitions as u32)?;
+    let definitions = script::check_script(script, Purpose::Rewriting)?;
+    guideline::check_guideline(guideline, definitions)?;
     let marks = marks_of(guideline);
-    let records = script.len() / 8 + gained(&marks, definitions);
+    let records = script.len() / 8 + gained(&marks, definitions as usize);
     if out.len() < 8 * records {
         return Err(Refusal::whole(Reason::OutputShort));
     }

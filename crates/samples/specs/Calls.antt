@@ -1,9 +1,14 @@
 -- The engine's calls on buffers that are full before. Assumes nothing.
-use Rattle.std.specs.Prelude.{List, ℕ, replicate}
+use Rattle.std.specs.Prelude.{List, ◌∷◌, ◌++◌, ℕ, replicate, decimal}
+use Rattle.refusal.specs.Refusal.{Verdict}
 use Rattle.plain.specs.Answer as plain_run
 use Rattle.plain.specs.Answer.{plain_of}
 use Rattle.rehearsal.specs.Rehearsal as rehearsals
 use Rattle.rehearsal.specs.Rehearsal.{rehearsal_of}
+
+-- Number and place in decimal, a blank between.
+abbrev pub verdict_text : Verdict → List ℕ
+verdict_text v = decimal v.number ++ (32 ∷ decimal v.place)
 
 -- So many bytes, each full.
 abbrev pub full : ℕ → List ℕ

@@ -1,9 +1,10 @@
 // The engine's calls, each on buffers of its own. These are full before, so that whatever is read there has been written.
-ghost use Rattle.std.specs.Prelude.{◌≡◌};
+ghost use Rattle.std.specs.Prelude.{◌≡◌, Some};
+ghost use Rattle.refusal.specs.Refusal.{verdict_of};
 ghost use Rattle.plain.specs.Answer as plain_run;
 ghost use Rattle.rewritten.specs.Answer as rewritten_run;
 ghost use Rattle.rehearsal.specs.Rehearsal.{Claimed};
-ghost use Rattle.samples.specs.Calls.{plain_after, rehearsed};
+ghost use Rattle.samples.specs.Calls.{verdict_text, plain_after, rehearsed};
 
 use refusal::Refusal;
 use std::fmt;
@@ -13,6 +14,8 @@ use std::fmt;
 pub struct Numbers(pub Result<(), Refusal>);
 
 impl fmt::Display for Numbers {
+    ghost output = { λ shown. Some (verdict_text (verdict_of shown.0)) };
+
     fn fmt<W: fmt::Write>(&self, f: &mut fmt::Formatter<W>) -> fmt::Result {
         match self.0 {
             Ok(()) => write!(f, "0 0"),

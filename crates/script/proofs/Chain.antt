@@ -1,7 +1,7 @@
 -- The refusals in their order, one law for each way out of the check. Assumes nothing.
 use mathlib.Core.Bool.{Bool, true, false, not, ◌||◌}
 use mathlib.Core.List.{List}
-use Rattle.std.specs.Prelude.{Option, None, Some, Result, Ok, Err}
+use Rattle.std.specs.Prelude.{Option, None, Some, Result, Ok, Err, MatchResult}
 use Rattle.std.specs.Option.{option_or}
 use mathlib.Core.Path.{◌≡◌, refl, sym, ap, ◌∙◌}
 use Prim.Native.Nat.{ℕ, ◌+◌, ◌-◌, ◌*◌, ◌%◌, ◌<◌, ◌≤◌}
@@ -12,7 +12,9 @@ use lib.ListN.{length}
 use borrow.Author.Tests.{ltb-false, lt-ltb, le-ltb}
 use Rattle.terms.specs.Record.{count}
 use Rattle.refusal.specs.First.{first_below}
-use Rattle.refusal.specs.Refusal.{Verdict, verdict, accepted, refuse_if, due_if, due-at, due-not, refuse-due, refuse-not}
+use Rattle.refusal.specs.Refusal.{Verdict, verdict, accepted, refused_as, refusal_at, refuse_if, due_if, due-at, due-not, refuse-due, refuse-not}
+use Rattle.refusal.specs.declared.Refusal.{Refusal}
+use Rattle.refusal.specs.declared.Reason.TheVariants.{ScriptOrder}
 use Rattle.script.specs.Check.{most_records, first_in, undefined_name, commands_below, too_many, due1, due2, due3, due5, due6, due7, script_verdict}
 use Rattle.script.specs.Layout.{Told, Tells, whole_verdict}
 use Rattle.script.specs.declared.Faults.{Faults}
@@ -125,10 +127,6 @@ most Rewriting = omega arith
 most PlainRun = omega arith
 most RewrittenRun = omega arith
 
--- What the walk tells of a whole file.
-pub told : (s : List ℕ) {l : Result Faults ℕ} {f : Faults} → Tells s l → l ≡ Ok f → Told s f
-told s t q = rw q at t
-
 module _ (u : Purpose) (s : List ℕ) where
   abbrev from3 : Verdict
   from3 = refuse_if 3 (due3 s) (whole_verdict u s)
@@ -164,10 +162,11 @@ module _ (u : Purpose) (s : List ℕ) where
           past2 : script_verdict u s ≡ from3
           past2 = past1 ∙ refuse-not 2 from3 (sym e2 ∙ n2)
 
-          -- Number 3 is due.
-          pub refused-3 : {v : Verdict} {l : Result Faults ℕ} {j : ℕ} → Tells s l → l ≡ Err j → v ≡ verdict 3 j → v ≡ script_verdict u s
-          refused-3 t q z = z ∙ sym (past2 ∙ refuse-due 3 (whole_verdict u s) (rw q at t))
+          -- Number 3 is due: the walk's place is the refusal's.
+          pub refused-3 : (l : Result Faults ℕ) (r : Refusal) → Tells s l → MatchResult l (λ f. Err r ≡ Ok f) (λ j. r ≡ refusal_at ScriptOrder j) → refused_as r ≡ script_verdict u s
+          refused-3 (Ok f) r t q = cc
+          refused-3 (Err j) r t q = ap refused_as q ∙ sym (past2 ∙ refuse-due 3 (whole_verdict u s) t)
 
           -- None of 1 to 3 is due.
-          pub refused-later : {v : Verdict} {l : Result Faults ℕ} {f : Faults} → Tells s l → l ≡ Ok f → v ≡ whole_verdict u s → v ≡ script_verdict u s
-          refused-later t q z = z ∙ sym (past2 ∙ refuse-not 3 (whole_verdict u s) (told s t q).unbroken)
+          pub refused-later : {v : Verdict} → due3 s ≡ None → v ≡ whole_verdict u s → v ≡ script_verdict u s
+          refused-later n z = z ∙ sym (past2 ∙ refuse-not 3 (whole_verdict u s) n)

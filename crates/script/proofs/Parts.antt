@@ -1,5 +1,5 @@
 -- What stands at a record of the file: a definition, the main term or nothing that could. Assumes nothing.
-use mathlib.Core.Bool.{Bool, true, false, ◌&&◌}
+use mathlib.Core.Bool.{Bool, true, false, cond, ◌&&◌}
 use mathlib.Core.List.{List, []}
 use mathlib.Core.Path.{◌≡◌, refl}
 use Prim.Native.Nat.{ℕ, ◌+◌, ◌<◌}
@@ -33,6 +33,10 @@ module _ (s : List ℕ) (i : ℕ) where
     file-no-body j e = rw (file-step s i, h, e)
 
   module _ (h : is_definition s i ≡ false) where
+    -- The main term, and whether nothing stands after it.
+    pub file-end : (e : Term) (j : ℕ) → read_at s i ≡ got e j → file_from s i ≡ cond (eqb j (count s)) (whole [] i e) (broken j)
+    file-end e j r = rw (file-step s i, h, r)
+
     -- The main term, with nothing after it.
     pub file-main : (e : Term) (j : ℕ) → read_at s i ≡ got e j → j ≡ count s → file_from s i ≡ whole [] i e
     file-main e j r q = rw (file-step s i, h, r, eq-eqb j (count s) q)

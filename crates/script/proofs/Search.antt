@@ -1,28 +1,35 @@
--- The count of a file's commands, as the loop goes. Assumes nothing.
-use mathlib.Core.Bool.{Bool, true, false}
+-- The count of a file's commands. Assumes nothing.
+use mathlib.Core.Bool.{Bool, true, false, cond}
 use mathlib.Core.List.{List}
-use mathlib.Core.Path.{◌≡◌, sym, ◌∙◌}
-use Prim.Native.Nat.{ℕ, ◌+◌, ◌≤◌}
+use mathlib.Core.Path.{◌≡◌, refl, ap}
+use Prim.Native.Nat.{ℕ, zero, suc, ◌+◌, ◌≤◌}
 use native.Mathlib.Omega.{arith}
 use native.Mathlib.Numerals.{add-one}
+use lib.ListN.{length}
+use Rattle.std.specs.List.{filter, range_with_len}
+use Rattle.terms.specs.Record.{count}
 use Rattle.script.specs.Check.{is_command, commands_below}
 
--- The commands below record i are k.
-pub record Counted (s : List ℕ) (k i : ℕ) : Type 0 where
-  pub all : k ≡ commands_below s i
-  pub few : k ≤ i
-
-pub counted_start : (s : List ℕ) → Counted s 0 0
+-- Those among the n records from a on, and those before.
+commands-from : (s : List ℕ) (a n j : ℕ) → a + n ≡ j → length (filter (is_command s) (range_with_len a n)) + commands_below s a ≡ commands_below s j
 unfolding commands_below
-counted_start s = record { all = omega arith; few = omega arith }
+commands-from s a zero j l = let z : a ≡ j = omega arith in let q : commands_below s a ≡ commands_below s j = ap (commands_below s) z in omega arith
+commands-from s a (suc n) j l = on (is_command s a) refl (commands-from s (a + 1) n j (omega arith))
+  where
+    on : (b : Bool) → is_command s a ≡ b → length (filter (is_command s) (range_with_len (a + 1) n)) + commands_below s (a + 1) ≡ commands_below s j
+        → length (filter (is_command s) (range_with_len a (suc n))) + commands_below s a ≡ commands_below s j
+    on true e h = let q : commands_below s (a + 1) ≡ suc (commands_below s a) = rw (add-one a, e) (omega arith) in rw e (omega arith)
+    on false e h = let q : commands_below s (a + 1) ≡ commands_below s a = rw (add-one a, e) (omega arith) in rw e (omega arith)
 
-module _ (s : List ℕ) {k i : ℕ} (h : Counted s k i) {b : Bool} (e : b ≡ is_command s i) where
-  -- Record i is a command.
-  pub counted-one : b ≡ true → Counted s (k + 1) (i + 1)
-  unfolding commands_below
-  counted-one o = record { all = rw (add-one i, sym e ∙ o) (omega (arith, h.all)); few = omega (arith, h.few) }
+commands-few : (s : List ℕ) (n : ℕ) → commands_below s n ≤ n
+unfolding commands_below
+commands-few s zero = omega arith
+commands-few s (suc n) = on (is_command s n) (commands-few s n)
+  where
+    on : (b : Bool) → commands_below s n ≤ n → cond b 1 0 + commands_below s n ≤ suc n
+    on true h = omega arith
+    on false h = omega arith
 
-  -- It is none.
-  pub counted-other : b ≡ false → Counted s k (i + 1)
-  unfolding commands_below
-  counted-other o = record { all = rw (add-one i, sym e ∙ o) (omega (arith, h.all)); few = omega (arith, h.few) }
+pub commands-counted : (s : List ℕ) {k : ℕ} → k ≡ length (filter (is_command s) (range_with_len 0 (count s))) → (k ≡ commands_below s (count s)) × (k ≤ count s)
+unfolding commands_below
+commands-counted s e = let h = commands-from s 0 (count s) (count s) (omega arith) in let f = commands-few s (count s) in (omega arith, omega arith)

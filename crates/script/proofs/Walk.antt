@@ -6,6 +6,8 @@ use mathlib.Core.Path.{◌≡◌, refl, sym, ap, ◌∙◌}
 use Prim.Native.Nat.{ℕ, ◌+◌, ◌<◌, ◌≤◌}
 use native.Mathlib.Omega.{arith}
 use lib.Dec.{eqb, ltb}
+use lib.ListN.{length}
+use Rattle.calculus.specs.Term.{Term}
 use Rattle.terms.specs.Record.{count, record_number}
 use Rattle.terms.specs.Read.{Read, read_at}
 use Rattle.terms.specs.Read.Read.{got, stuck}
@@ -14,13 +16,14 @@ use Rattle.terms.proofs.Loose.{or_assoc}
 use Rattle.terms.proofs.Walk.{walked-read, walked-stuck, walked-within}
 use Rattle.terms.specs.declared.Extent.{Extent}
 use Rattle.terms.proofs.Pass.{pass-read, pass-within}
+use Rattle.std.specs.Bool.{then_some}
 use Rattle.std.specs.Option.{option_or}
 use Rattle.script.specs.File.{Definition, File, add_definition, is_definition, file_of, file_from}
 use Rattle.script.specs.File.File.{whole, broken}
-use Rattle.script.specs.Check.{broken_at, misnumbered, loose_body, definition_count, misnumbered_in, loose_in, due3}
+use Rattle.script.specs.Check.{broken_at, misnumbered, loose_body, definition_count, definitions_in, misnumbered_in, loose_in, due3}
 use Rattle.script.specs.Layout.{no_faults, after_definition, after_main, Told, count_after, misnumbered_after, loose_after, Reached}
 use Rattle.script.specs.declared.Faults.{Faults}
-use Rattle.script.proofs.Parts.{file-definition, file-no-body, file-main, file-more, file-no-main}
+use Rattle.script.proofs.Parts.{file-definition, file-no-body, file-end, file-main, file-more, file-no-main}
 
 -- ---- one definition more
 
@@ -136,14 +139,27 @@ module _ {s : List ℕ} {i : ℕ} {f : Faults} (h : Reached s i f) where
 
 -- ---- the definitions alone
 
+-- The definitions of a file whose first k were passed over.
+abbrev definitions_after : ℕ → File → Option ℕ
+definitions_after k (whole ds i e) = Some (k + length ds)
+definitions_after k (broken j) = None
+
+start-definitions : (F : File) → definitions_in F ≡ definitions_after 0 F
+start-definitions (whole ds i e) = ap Some (omega arith)
+start-definitions (broken j) = refl
+
+definitions-more : (k : ℕ) (d : Definition) (F : File) → definitions_after k (add_definition d F) ≡ definitions_after (k + 1) F
+definitions-more k d (whole ds i e) = ap Some (omega arith)
+definitions-more k d (broken j) = refl
+
 -- Up to record i, k definitions were passed over.
 pub record Passing (s : List ℕ) (i k : ℕ) : Type 0 where
   pub within : i ≤ count s
   pub few : k ≤ i
-  pub counted : definition_count (file_of s) ≡ count_after k (file_from s i)
+  pub counted : definitions_in (file_of s) ≡ definitions_after k (file_from s i)
 
 pub passing-start : (s : List ℕ) → Passing s 0 0
-passing-start s = record { within = omega arith; few = omega arith; counted = start-count (file_from s 0) }
+passing-start s = record { within = omega arith; few = omega arith; counted = start-definitions (file_from s 0) }
 
 passed_none : (r : Read) → passed_of r ≡ None → (j : ℕ) × (r ≡ stuck j)
 passed_none (got t j) e = cc
@@ -160,22 +176,22 @@ module _ {s : List ℕ} {i k : ℕ} (h : Passing s i k) where
         record {
           within = l.1;
           few = omega (arith, h.few, l.0);
-          counted = h.counted ∙ ap (count_after k) (file-definition s i d r.0 j r.1) ∙ count-more k x (file_from s j);
+          counted = h.counted ∙ ap (definitions_after k) (file-definition s i d r.0 j r.1) ∙ definitions-more k x (file_from s j);
         }
 
     -- A definition without a body: the file is not whole.
-    pub passing-stopped : pass_term s (i + 1) ≡ None → 0 ≡ definition_count (file_of s)
-    passing-stopped w = let r = passed_none (read_at s (i + 1)) w in sym (h.counted ∙ ap (count_after k) (file-no-body s i d r.0 r.1))
+    pub passing-stopped : pass_term s (i + 1) ≡ None → None ≡ definitions_in (file_of s)
+    passing-stopped w = let r = passed_none (read_at s (i + 1)) w in sym (h.counted ∙ ap (definitions_after k) (file-no-body s i d r.0 r.1))
 
   module _ (d : is_definition s i ≡ false) where
     -- No main term: it is not whole.
-    pub passed-stopped : pass_term s i ≡ None → 0 ≡ definition_count (file_of s)
-    passed-stopped w = let r = passed_none (read_at s i) w in sym (h.counted ∙ ap (count_after k) (file-no-main s i d r.0 r.1))
+    pub passed-stopped : pass_term s i ≡ None → None ≡ definitions_in (file_of s)
+    passed-stopped w = let r = passed_none (read_at s i) w in sym (h.counted ∙ ap (definitions_after k) (file-no-main s i d r.0 r.1))
 
-    -- A record after the main term: it is not whole.
-    pub passed-early : (j : ℕ) → pass_term s i ≡ Some j → (j ≡ count s → ⊥) → 0 ≡ definition_count (file_of s)
-    passed-early j w n = let r = pass-read s i j w in sym (h.counted ∙ ap (count_after k) (file-more s i d r.0 j r.1 n))
-
-    -- The main term ends the file.
-    pub passed-whole : (j : ℕ) → pass_term s i ≡ Some j → j ≡ count s → k ≡ definition_count (file_of s)
-    passed-whole j w e = let r = pass-read s i j w in sym (h.counted ∙ ap (count_after k) (file-main s i d r.0 j r.1 e) ∙ omega arith)
+    -- The main term ends the file, or a record stands after it: then the file is not whole.
+    pub passed-end : (j : ℕ) → pass_term s i ≡ Some j → {o : Option ℕ} → o ≡ then_some (eqb j (count s)) k → o ≡ definitions_in (file_of s)
+    passed-end j w e = let r = pass-read s i j w in e ∙ on (eqb j (count s)) r.0 ∙ sym (h.counted ∙ ap (definitions_after k) (file-end s i d r.0 j r.1))
+      where
+        on : (b : Bool) (t : Term) → then_some b k ≡ definitions_after k (cond b (whole [] i t) (broken j))
+        on true t = ap Some (omega arith)
+        on false t = refl

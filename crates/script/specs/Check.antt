@@ -70,6 +70,11 @@ abbrev pub definition_count : File → ℕ
 definition_count (whole ds i e) = length ds
 definition_count (broken j) = 0
 
+-- The same of a whole file alone: a broken one has no definitions to count.
+abbrev pub definitions_in : File → Option ℕ
+definitions_in (whole ds i e) = Some (length ds)
+definitions_in (broken j) = None
+
 abbrev pub undefined_name : List ℕ → ℕ → ℕ → Bool
 undefined_name s n i = eqb (kind_at s i) 2 && not (ltb (record_number s i) n)
 

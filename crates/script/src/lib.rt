@@ -1,12 +1,12 @@
 // Checking a script: refusals 1 to 7.
 #![tactic(auto)]
 
-ghost use Rattle.std.specs.Prelude.{false, ◌≡◌, ◌+◌, ◌^◌, ◌<◌, ◌≤◌};
+ghost use Rattle.std.specs.Prelude.{false, ◌≡◌, ◌+◌, ◌^◌, ◌<◌, ◌≤◌, IfOk};
 ghost use Rattle.std.specs.Option.{option_or};
 ghost use Rattle.refusal.specs.Refusal.{accepted, due_if, refuse_if, verdict_of};
 ghost use Rattle.terms.specs.Record.{count};
 ghost use Rattle.script.specs.File.{is_definition, file_of};
-ghost use Rattle.script.specs.Check.{most_records, due1, due2, malformed, definition_count, undefined_name, is_command, is_parameter, command_of, placed_call, placed_emit, misplaced, commands_below, too_many, first_in, due7, script_verdict};
+ghost use Rattle.script.specs.Check.{most_records, due1, due2, malformed, definition_count, definitions_in, undefined_name, is_command, is_parameter, command_of, placed_call, placed_emit, misplaced, commands_below, too_many, first_in, due7, script_verdict};
 ghost use Rattle.script.specs.Layout.{no_faults, misnumbered_at, after_definition, after_main, Told, Tells, Reached, whole_verdict};
 
 use refusal::{Reason, Refusal};
@@ -19,6 +19,13 @@ pub enum Purpose {
     Rewriting,
     PlainRun,
     RewrittenRun,
+}
+
+// A script that number 1 let pass: its records are so few that 32 bits number them.
+#[derive(Clone, Copy)]
+struct Script<'a> {
+    bytes: &'a [u8],
+    ghost short: { count bytes.now ≤ 65536 },
 }
 
 // What numbers 4 to 6 go by in a whole file: how many definitions it has, the first of them that is misnumbered, the first variable
@@ -51,6 +58,7 @@ fn wrong_length(s: &[u8], purpose: Purpose) -> bool
 }
 
 // ---- tests of one record, for numbers 2, 6 and 7
+// Each takes the script and the record's number: it reads the records around as well, and what `find` below hands a test is a number.
 
 // Whether a record has an unknown kind, a spare byte that is not zero or a number out of range. Its first four bytes are read as one
 // number: without the kind, the spare bytes are left.
@@ -117,6 +125,7 @@ fn is_misplaced(s: &[u8], i: usize) -> bool
 }
 
 // ---- the first record that a test finds
+// Each is std's `find` over a test of its own. One function for all, with the test as its parameter, would be `find` again.
 
 fn first_malformed(s: &[u8]) -> Option<usize>
     ensures { result ≡ due2 s.now }
@@ -212,138 +221,132 @@ fn is_definition(s: &[u8], i: usize) -> bool
     i < s.len() / 8 && s[8 * i] == 8
 }
 
-// The main term at a record, after the definitions in which that was found.
-fn walk_main(s: &[u8], at: usize, found: Faults) -> Result<Faults, u32>
-    requires short { count s.now ≤ 65536 }
-    requires reached { Reached s.now at found }
-    requires at_main { is_definition s.now at ≡ false }
-    ensures { Tells s.now result }
-{
-    let main = terms::walk_term(s, at, 0)?;
-    if (main.end as usize) < s.len() / 8 {
-        return Err(main.end);
+impl Script<'_> {
+    // The definitions one after the other, each body with one abstraction around it, then the main term. An error is a record that cannot
+    // stand where it does.
+    fn walk(self) -> Result<Faults, u32>
+        ensures { Tells self.entry.bytes.now result }
+    {
+        let mut found = Faults::none();
+        let mut at = 0;
+        // By whole terms and not by one: no `for` counts this.
+        while is_definition(self.bytes, at) {
+            let body = terms::walk_term(self.bytes, at + 1, 1)?;
+            found = found.after(at as u32, terms::number(self.bytes, at), body.loose);
+            at = body.end as usize;
+        }
+        self.walk_main(at, found)
     }
-    Ok(found.main(main.loose))
+
+    // The main term at a record, after the definitions in which that was found.
+    fn walk_main(self, at: usize, found: Faults) -> Result<Faults, u32>
+        requires reached { Reached self.bytes.now at found }
+        requires at_main { is_definition self.bytes.now at ≡ false }
+        ensures { Tells self.entry.bytes.now result }
+    {
+        let main = terms::walk_term(self.bytes, at, 0)?;
+        if (main.end as usize) < self.bytes.len() / 8 {
+            return Err(main.end);
+        }
+        Ok(found.main(main.loose))
+    }
 }
 
-// The definitions one after the other, each body with one abstraction around it, then the main term. An error is a record that cannot
-// stand where it does.
-fn walk_file(s: &[u8]) -> Result<Faults, u32>
-    requires { count s.now ≤ 65536 }
-    ensures { Tells s.now result }
-{
-    let mut found = Faults::none();
-    let mut at = 0;
-    // By whole terms and not by one: no `for` counts this.
-    while is_definition(s, at) {
-        let body = terms::walk_term(s, at + 1, 1)?;
-        found = found.after(at as u32, terms::number(s, at), body.loose);
-        at = body.end as usize;
-    }
-    walk_main(s, at, found)
-}
-
-// How many definitions a file has; none if it is not whole.
-pub fn definitions(s: &[u8]) -> usize
-    ensures { result ≡ definition_count (file_of s.now) }
+// How many definitions a file has, if it is whole: of any file, where `check_script` tells it of those that it accepts.
+pub fn definitions(s: &[u8]) -> Option<usize>
+    ensures { result ≡ definitions_in (file_of s.now) }
 {
     let mut passed = 0;
     let mut at = 0;
     // As above, by whole terms.
     while is_definition(s, at) {
-        let Some(next) = terms::pass_term(s, at + 1) else {
-            return 0;
-        };
+        at = terms::pass_term(s, at + 1)?;
         passed += 1;
-        at = next;
     }
-    match terms::pass_term(s, at) {
-        Some(end) if end == s.len() / 8 => passed,
-        _ => 0,
-    }
+    let end = terms::pass_term(s, at)?;
+    (end == s.len() / 8).then_some(passed)
 }
 
-// ---- number 7
+// ---- number 7, and 4 to 7 of a whole file in their order
 
 // How many records are commands.
 fn count_commands(s: &[u8]) -> usize
     ensures { (result ≡ commands_below s.now (count s.now)) × (result ≤ count s.now) }
 {
-    let mut commands = 0;
-    for i in 0..s.len() / 8 {
-        if is_command(s, i) {
-            commands += 1;
+    (0..s.len() / 8)
+        .filter(
+            |&i|
+                requires { i < count s.now }
+            { is_command(s, i) },
+        )
+        .count()
+}
+
+impl Script<'_> {
+    // Where no command may stand.
+    fn check_bare(self) -> Result<(), Refusal>
+        ensures { verdict_of result ≡ refuse_if 7 (first_in self.entry.bytes.now (is_command self.entry.bytes.now)) accepted }
+    {
+        match first_command(self.bytes) {
+            Some(place) => Err(Refusal::at(Reason::ScriptCommand, place)),
+            None => Ok(()),
         }
     }
-    commands
-}
 
-// Where no command may stand.
-fn check_bare(s: &[u8]) -> Result<(), Refusal>
-    requires { count s.now ≤ 65536 }
-    ensures { verdict_of result ≡ refuse_if 7 (first_in s.now (is_command s.now)) accepted }
-{
-    if let Some(place) = first_command(s) {
-        return Err(Refusal::at(Reason::ScriptCommand, place));
+    // In a rewritten script: the first misplaced command, else too many records besides commands and their arguments.
+    fn check_placed(self) -> Result<(), Refusal>
+        ensures { verdict_of result ≡ refuse_if 7 (option_or (first_in self.entry.bytes.now (misplaced self.entry.bytes.now)) (too_many self.entry.bytes.now)) accepted }
+    {
+        if let Some(place) = first_misplaced(self.bytes) {
+            return Err(Refusal::at(Reason::ScriptCommand, place));
+        }
+        let n = self.bytes.len() / 8;
+        if 1024 + 2 * count_commands(self.bytes) < n {
+            return Err(Refusal::at(Reason::ScriptCommand, n));
+        }
+        Ok(())
     }
-    Ok(())
-}
 
-// In a rewritten script: the first misplaced command, else too many records besides commands and their arguments.
-fn check_placed(s: &[u8]) -> Result<(), Refusal>
-    requires { count s.now ≤ 65536 }
-    ensures { verdict_of result ≡ refuse_if 7 (option_or (first_in s.now (misplaced s.now)) (too_many s.now)) accepted }
-{
-    if let Some(place) = first_misplaced(s) {
-        return Err(Refusal::at(Reason::ScriptCommand, place));
+    // Number 7: a rewritten run takes commands in their places, all else takes none.
+    fn check_commands(self, purpose: Purpose) -> Result<(), Refusal>
+        ensures { verdict_of result ≡ refuse_if 7 (due7 purpose self.entry.bytes.now) accepted }
+    {
+        match purpose {
+            Purpose::Checking | Purpose::Rewriting | Purpose::PlainRun => self.check_bare(),
+            Purpose::RewrittenRun => self.check_placed(),
+        }
     }
-    let n = s.len() / 8;
-    if 1024 + 2 * count_commands(s) < n {
-        return Err(Refusal::at(Reason::ScriptCommand, n));
-    }
-    Ok(())
-}
 
-// Number 7: a rewritten run takes commands in their places, all else takes none.
-fn check_commands(s: &[u8], purpose: Purpose) -> Result<(), Refusal>
-    requires { count s.now ≤ 65536 }
-    ensures { verdict_of result ≡ refuse_if 7 (due7 purpose s.now) accepted }
-{
-    match purpose {
-        Purpose::Checking | Purpose::Rewriting | Purpose::PlainRun => check_bare(s),
-        Purpose::RewrittenRun => check_placed(s),
+    // Numbers 4 to 7 of a whole file in which that was found.
+    fn check_whole(self, purpose: Purpose, found: Faults) -> Result<(), Refusal>
+        requires { Told self.bytes.now found }
+        ensures { verdict_of result ≡ whole_verdict purpose self.entry.bytes.now }
+    {
+        if let Some(place) = found.misnumbered {
+            return Err(Refusal {
+                reason: Reason::ScriptDefinition,
+                place,
+            });
+        }
+        if let Some(place) = found.loose {
+            return Err(Refusal {
+                reason: Reason::ScriptVariable,
+                place,
+            });
+        }
+        if let Some(place) = first_undefined(self.bytes, found.definitions) {
+            return Err(Refusal::at(Reason::ScriptFunction, place));
+        }
+        self.check_commands(purpose)
     }
 }
 
 // ---- all
 
-// Numbers 4 to 7 of a whole file in which that was found.
-fn check_whole(s: &[u8], purpose: Purpose, found: Faults) -> Result<(), Refusal>
-    requires short { count s.now ≤ 65536 }
-    requires told { Told s.now found }
-    ensures { verdict_of result ≡ whole_verdict purpose s.now }
-{
-    if let Some(place) = found.misnumbered {
-        return Err(Refusal {
-            reason: Reason::ScriptDefinition,
-            place,
-        });
-    }
-    if let Some(place) = found.loose {
-        return Err(Refusal {
-            reason: Reason::ScriptVariable,
-            place,
-        });
-    }
-    if let Some(place) = first_undefined(s, found.definitions) {
-        return Err(Refusal::at(Reason::ScriptFunction, place));
-    }
-    check_commands(s, purpose)
-}
-
-// The first number that is due, and its place.
-pub fn check_script(s: &[u8], purpose: Purpose) -> Result<(), Refusal>
-    ensures { verdict_of result ≡ script_verdict purpose s.now }
+// The first number that is due, and its place; else how many definitions the script has.
+pub fn check_script(s: &[u8], purpose: Purpose) -> Result<u32, Refusal>
+    ensures verdict { verdict_of result ≡ script_verdict purpose s.now }
+    ensures counted { IfOk result (λ n. n ≡ definition_count (file_of s.now)) }
 {
     if wrong_length(s, purpose) {
         return Err(Refusal::whole(Reason::ScriptLength));
@@ -351,11 +354,11 @@ pub fn check_script(s: &[u8], purpose: Purpose) -> Result<(), Refusal>
     if let Some(place) = first_malformed(s) {
         return Err(Refusal::at(Reason::ScriptRecord, place));
     }
-    match walk_file(s) {
-        Ok(found) => check_whole(s, purpose, found),
-        Err(place) => Err(Refusal {
-            reason: Reason::ScriptOrder,
-            place,
-        }),
-    }
+    let script = Script { bytes: s };
+    let found = script.walk().map_err(|place| Refusal {
+        reason: Reason::ScriptOrder,
+        place,
+    })?;
+    script.check_whole(purpose, found)?;
+    Ok(found.definitions)
 }

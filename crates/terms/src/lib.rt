@@ -36,7 +36,8 @@ impl Extent {
     }
 }
 
-// The arity of a kind. Kinds are matched as the bytes that they are, here and in the checks and steps above: docs/READING.md, 9, names that form.
+// The arity of a kind. Kinds are matched as the bytes that they are, here and in the checks and steps above: docs/READING.md, 9, names that form
+// for arity, range and step, and an enum for the tests of one kind between them would be a second name for the same byte.
 // Kinds 9 and 10 as a range compile to comparisons, as single kinds to a table of jumps, which is slower.
 pub fn arity_of(kind: u8) -> Arity
     ensures { result ≡ arity_of kind }

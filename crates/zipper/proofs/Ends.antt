@@ -1,17 +1,21 @@
 -- Loading and storing: a term at the buffer's end, and the two parts put together. Assumes nothing.
+use mathlib.Core.Bool.{false}
 use mathlib.Core.List.{List, [], ◌++◌, append_assoc, append-nil}
 use mathlib.Core.Path.{◌≡◌, refl, sym, ap, ap₂, ◌∙◌}
 use Prim.Native.Nat.{ℕ, ◌+◌, ◌-◌, ◌*◌, ◌/◌, ◌≤◌}
 use native.Mathlib.Omega.{arith}
 use lib.ListN.{length, take, drop, length-append, length-drop}
 use lib.Seq.{take_all, drop-length, length-take-le}
+use Rattle.std.proofs.Math.ListN.{replicate}
+use Rattle.std.proofs.lemmas.List.{length-replicate}
 use Rattle.words.specs.Bytes.{part}
 use Rattle.words.specs.Put.{put, put-length, put_rest, put-start}
-use Rattle.words.specs.Filled.{zeros, filled, zeros-length, put-zeros}
+use Rattle.words.specs.Filled.{zeros, filled, put-zeros}
 use Rattle.calculus.specs.Term.{Term, records}
 use Rattle.terms.specs.Read.{term_at}
 use Rattle.terms.specs.Encode.{encode}
 use Rattle.terms.proofs.Encode.{encode-length, term-at}
+use Rattle.zipper.specs.declared.Entry.{Entry}
 use Rattle.zipper.specs.Layout.{Expression}
 use Rattle.zipper.specs.Zipper.{whole_in, ZipOf, Flat, Last, Loaded, Stored}
 use Rattle.zipper.proofs.Parts.{records-some, part-there}
@@ -48,7 +52,7 @@ module _ {s : List ℕ} {i : ℕ} (h : Last s i) where
       record { start = omega arith; bytes = q ∙ ap₂ (put e) j y }
 
 -- A loaded expression is a focus with no frames.
-pub loaded-zip : {T : Term} {r : ℕ} {e e' : List ℕ} → Loaded T r e e' → Expression T → length e ≡ 24576 → (fs : List ℕ) → 1024 ≤ length fs
+pub loaded-zip : {T : Term} {r : ℕ} {e e' : List ℕ} → Loaded T r e e' → Expression T → length e ≡ 24576 → (fs : List Entry) → 1024 ≤ length fs
     → ZipOf e' fs 0 r 0 T
 loaded-zip {T} {r} {e} {e'} h s w fs g =
     let k = h.start in
@@ -77,7 +81,9 @@ loaded-zip {T} {r} {e} {e'} h s w fs g =
 
 -- It is what the buffer's bytes give.
 pub loaded-whole : {T : Term} {r : ℕ} {e e' : List ℕ} → Loaded T r e e' → Expression T → length e ≡ 24576 → whole_in e' 0 r ≡ T
-loaded-whole h s w = zip-whole (loaded-zip h s w (zeros 1024) (omega (arith, zeros-length 1024)))
+loaded-whole h s w =
+    let x : Entry = record { place = 0; done = false } in
+    zip-whole (loaded-zip h s w (replicate 1024 x) (omega (arith, length-replicate 1024 x)))
 
 -- ---- storing
 

@@ -8,13 +8,14 @@ use lib.Seq.{take_at, take-take}
 use Rattle.calculus.specs.Term.{Term, records, Bare}
 use Rattle.terms.specs.Encode.{encode, Fits}
 use Rattle.terms.proofs.Encode.{encode-length}
+use Rattle.zipper.specs.declared.Entry.{Entry}
 use Rattle.zipper.specs.Frame.{Frame, fill, plug}
 use Rattle.zipper.specs.Layout.{lefts, rights, left_size, Zip}
 use Rattle.zipper.specs.Zipper.{ZipOf}
 use Rattle.zipper.proofs.Context.{bare-shared, fits-shared, plug-keeps}
 use Rattle.zipper.proofs.Parts.{lefts-length, records-some, plug-records}
 
-module _ {e fs : List ℕ} {p l r n : ℕ} {f : Frame} {K : List Frame} {v : Term} (h : Zip e fs l r n (f ∷ K) v) (at : p ≡ left_size K) where
+module _ {e : List ℕ} {fs : List Entry} {p l r n : ℕ} {f : Frame} {K : List Frame} {v : Term} (h : Zip e fs l r n (f ∷ K) v) (at : p ≡ left_size K) where
   -- What lies before the frame.
   front : take (8 * p) e ≡ lefts K
   front =

@@ -23,85 +23,85 @@ module _ (e : List ℕ) (l r : ℕ) where
     pub still : many wanted e i ≡ Some (end_at e r)
     pub begun : r ≤ i
     pub few : wanted ≤ 2 * (i - r) + 1
-    -- While a term is wanted, there is a record.
-    pub inside : 0 < wanted → i < count e
+    pub some : 0 < wanted
 
   pub started : Whole e r → Copying e r 1
   started w =
       let z : 8 * (r - r) ≡ 0 = omega arith in
-      let still : many 1 e r ≡ Some (end_at e r) = many-one e r ∙ w in
       record {
         copied = sym (ap (λ (n : ℕ). put e (8 * l) (part e (8 * r) n)) z ∙ ap (put e (8 * l)) (part_none e (8 * r)) ∙ put-none e (8 * l));
-        still = still;
+        still = many-one e r ∙ w;
         begun = omega arith;
         few = omega arith;
-        inside = λ v. many-inside e r 1 v (end_at e r) still;
+        some = omega arith;
       }
 
   module _ (order : l ≤ r) {e' : List ℕ} {i wanted : ℕ} (h : Copying e' i wanted) where
-    -- With none wanted all is copied.
-    pub ended : wanted ≤ 0 → (i ≡ end_at e r) × (e' ≡ copied_to e l r)
-    unfolding copied_to
-    ended w =
-        let q : Some i ≡ Some (end_at e r) = sym (many-none e i wanted (omega arith)) ∙ h.still in
-        let j : i ≡ end_at e r = cc in
-        (j, h.copied ∙ ap copied_up_to j)
+    -- The term that is wanted begins in the file, …
+    pub within : i < count e
+    within = many-inside e i wanted h.some (end_at e r) h.still
 
-    -- A record that begins no term does not occur.
-    pub never : 0 < wanted → arity_of (kind_at e i) ≡ NoTerm → ⊥
-    never w k =
-        let q : None ≡ Some (end_at e r) = sym (many_stuck e i (h.inside w) wanted w k) ∙ h.still in
+    -- … at a record that begins one.
+    pub never : arity_of (kind_at e i) ≡ NoTerm → ⊥
+    never k =
+        let q : None ≡ Some (end_at e r) = sym (many_stuck e i within wanted h.some k) ∙ h.still in
         let z : ◌≡◌ {A = ℕ} 0 1 = cc in omega arith
 
-    module _ (in-file : i < count e) where
-      b : 8 * r + 8 * (i - r) ≤ length e
-      b = omega (arith, h.begun)
+    b : 8 * r + 8 * (i - r) ≤ length e
+    b = omega (arith, h.begun, within)
 
-      long : length (part e (8 * r) (8 * (i - r))) ≡ 8 * (i - r)
-      long = part_length e (8 * r) (8 * (i - r)) b
+    long : length (part e (8 * r) (8 * (i - r))) ≡ 8 * (i - r)
+    long = part_length e (8 * r) (8 * (i - r)) b
 
-      fit : 8 * l + length (part e (8 * r) (8 * (i - r))) ≤ length e
-      fit = omega (arith, long, b)
+    fit : 8 * l + length (part e (8 * r) (8 * (i - r))) ≤ length e
+    fit = omega (arith, long, b)
 
-      -- What is read next was not written.
-      next-part : part e' (8 * i) 8 ≡ part e (8 * i) 8
-      unfolding part
-      next-part = ap (take 8) (ap (drop (8 * i)) h.copied ∙ put-drop e (8 * l) (part e (8 * r) (8 * (i - r))) fit (8 * i) (omega (arith, long, h.begun)))
+    -- What is read next was not written.
+    next-part : part e' (8 * i) 8 ≡ part e (8 * i) 8
+    unfolding part
+    next-part = ap (take 8) (ap (drop (8 * i)) h.copied ∙ put-drop e (8 * l) (part e (8 * r) (8 * (i - r))) fit (8 * i) (omega (arith, long, h.begun)))
 
-      module _ (bytes-all : AllBytes e) (x : ℕ) (read : x ≡ number_at 8 e' (8 * i)) where
-        is-record : bytes 8 x ≡ part e (8 * i) 8
-        is-record = ap (bytes 8) (read ∙ ap (λ (v : List ℕ). number v) next-part) ∙ bytes-part e (8 * i) 8 bytes-all (omega arith)
+    module _ (bytes-all : AllBytes e) (x : ℕ) (read : x ≡ number_at 8 e' (8 * i)) where
+      is-record : bytes 8 x ≡ part e (8 * i) 8
+      is-record = ap (bytes 8) (read ∙ ap (λ (v : List ℕ). number v) next-part) ∙ bytes-part e (8 * i) 8 bytes-all (omega (arith, within))
 
-        -- Its first byte is the kind.
-        pub kind-read : x % 256 ≡ kind_at e i
-        kind-read =
-            let q : x ≡ number_at 8 e (8 * i) = read ∙ ap (λ (v : List ℕ). number v) next-part in
-            let n = number-next 7 e (8 * i) (8 * i + 1) (omega arith) refl in
-            let k = bytes-all (8 * i) in
-            omega (arith, q, n, k)
+      -- Its first byte is the kind.
+      pub kind-read : x % 256 ≡ kind_at e i
+      kind-read =
+          let q : x ≡ number_at 8 e (8 * i) = read ∙ ap (λ (v : List ℕ). number v) next-part in
+          let n = number-next 7 e (8 * i) (8 * i + 1) (omega (arith, within)) refl in
+          let k = bytes-all (8 * i) in
+          omega (arith, q, n, k)
 
-        -- One record more.
-        pub copied_on : (e'' : List ℕ) → e'' ≡ put e' (8 * (l + (i - r))) (bytes 8 x) → e'' ≡ copied_up_to (i + 1)
-        copied_on e'' p =
-            let v : List ℕ = part e (8 * r) (8 * (i - r)) in
-            let a : 8 * (l + (i - r)) ≡ 8 * l + length v = omega (arith, long) in
-            let s : 8 * r + 8 * (i - r) ≡ 8 * i = omega (arith, h.begun) in
-            let m : 8 * (i - r) + 8 ≡ 8 * (i + 1 - r) = omega (arith, h.begun) in
-            p
-            ∙ ap (λ (y : List ℕ). put y (8 * (l + (i - r))) (bytes 8 x)) h.copied
-            ∙ ap (λ (n : ℕ). put (put e (8 * l) v) n (bytes 8 x)) a
-            ∙ ap (put (put e (8 * l) v) (8 * l + length v)) is-record
-            ∙ put-put e (8 * l) v fit (part e (8 * i) 8)
-            ∙ ap (put e (8 * l)) (ap (λ (n : ℕ). v ++ part e n 8) (sym s) ∙ sym (part-append e (8 * r) (8 * (i - r)) 8) ∙ ap (part e (8 * r)) m)
+      -- One record more.
+      pub copied_on : (e'' : List ℕ) → e'' ≡ put e' (8 * (l + (i - r))) (bytes 8 x) → e'' ≡ copied_up_to (i + 1)
+      copied_on e'' p =
+          let v : List ℕ = part e (8 * r) (8 * (i - r)) in
+          let a : 8 * (l + (i - r)) ≡ 8 * l + length v = omega (arith, long) in
+          let s : 8 * r + 8 * (i - r) ≡ 8 * i = omega (arith, h.begun) in
+          let m : 8 * (i - r) + 8 ≡ 8 * (i + 1 - r) = omega (arith, h.begun) in
+          p
+          ∙ ap (λ (y : List ℕ). put y (8 * (l + (i - r))) (bytes 8 x)) h.copied
+          ∙ ap (λ (n : ℕ). put (put e (8 * l) v) n (bytes 8 x)) a
+          ∙ ap (put (put e (8 * l) v) (8 * l + length v)) is-record
+          ∙ put-put e (8 * l) v fit (part e (8 * i) 8)
+          ∙ ap (put e (8 * l)) (ap (λ (n : ℕ). v ++ part e n 8) (sym s) ∙ sym (part-append e (8 * r) (8 * (i - r)) 8) ∙ ap (part e (8 * r)) m)
 
-        -- The loop goes on.
-        pub onward : (e'' : List ℕ) → e'' ≡ put e' (8 * (l + (i - r))) (bytes 8 x) → (wanted' : ℕ) → many wanted e i ≡ many wanted' e (i + 1) → wanted' ≤ wanted + 2 → Copying e'' (i + 1) wanted'
-        onward e'' p wanted' m f =
-            let still : many wanted' e (i + 1) ≡ Some (end_at e r) = sym m ∙ h.still in
-            record {
-              copied = copied_on e'' p;
-              still = still;
-              begun = omega (arith, h.begun);
-              few = omega (arith, h.begun, h.few);
-              inside = λ w. many-inside e (i + 1) wanted' w (end_at e r) still;
-            }
+      module _ (e'' : List ℕ) (write : e'' ≡ put e' (8 * (l + (i - r))) (bytes 8 x)) (wanted' : ℕ) (pass : many wanted e i ≡ many wanted' e (i + 1)) where
+        -- With none wanted all is copied.
+        pub ended : wanted' ≡ 0 → (i + 1 ≡ end_at e r) × (e'' ≡ copied_to e l r)
+        unfolding copied_to
+        ended w =
+            let q : Some (i + 1) ≡ Some (end_at e r) = sym (many-none e (i + 1) wanted' w) ∙ sym pass ∙ h.still in
+            let j : i + 1 ≡ end_at e r = cc in
+            (j, copied_on e'' write ∙ ap copied_up_to j)
+
+        -- Else the loop goes on.
+        pub onward : 0 < wanted' → wanted' ≤ wanted + 2 → Copying e'' (i + 1) wanted'
+        onward w f = record {
+          copied = copied_on e'' write;
+          still = sym pass ∙ h.still;
+          begun = omega (arith, h.begun);
+          few = omega (arith, h.begun, h.few);
+          some = w;
+        }

@@ -6,5 +6,5 @@ pub mod Leaving
 pub mod Search
 pub mod Ends
 pub mod Landing
-pub mod Redex
+pub mod Redexes
 pub mod Sums

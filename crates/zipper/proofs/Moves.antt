@@ -1,11 +1,12 @@
 -- The moves of the search on the bytes: the expression stays the same. Assumes nothing.
-use mathlib.Core.Bool.{true}
+use mathlib.Core.Bool.{true, false}
 use mathlib.Core.List.{List, [], ◌∷◌, ◌++◌, append_assoc}
-use mathlib.Core.Path.{◌≡◌, refl, sym, ap, ◌∙◌}
+use mathlib.Core.Path.{◌≡◌, refl, sym, ap, ap₂, ◌∙◌}
 use Prim.Native.Nat.{ℕ, ◌+◌, ◌-◌, ◌*◌, ◌<◌, ◌≤◌}
 use native.Mathlib.Omega.{arith}
 use lib.ListN.{length, drop, set, get_or, length-set, take-append-drop}
-use lib.Seq.{drop_at, get_or-set_same, get_or-set_other}
+use lib.Seq.{drop_at}
+use Rattle.std.proofs.lemmas.Option.{get_or_from_slice_get}
 use Rattle.words.specs.Bytes.{bytes, part}
 use Rattle.words.specs.Put.{put, put-length, put-head, put-drop}
 use Rattle.calculus.specs.Term.{Term, is_value, records}
@@ -13,12 +14,13 @@ use Rattle.terms.specs.Record.{count, kind_at, record8}
 use Rattle.terms.specs.Encode.{encode, Fits}
 use Rattle.terms.proofs.Stands.{Stands}
 use Rattle.terms.proofs.Encode.{record-length, record-inside, record-kind, record-rest, encode-length, encode-stands}
+use Rattle.zipper.specs.declared.Entry.{Entry}
 use Rattle.zipper.specs.Frame.{Pair, join, pair_kind, Frame, kind_of, fill, Done}
 use Rattle.zipper.specs.Frame.Pair.{applies, adds}
 use Rattle.zipper.specs.Frame.Frame.{to_come, done, choosing}
-use Rattle.zipper.specs.Layout.{between, gone, lefts, rights, left_size, side, Zip}
+use Rattle.zipper.specs.Layout.{between, gone, lefts, rights, left_size, is_half_done, Zip}
 use Rattle.zipper.proofs.Context.{fits-shared, plug-part}
-use Rattle.zipper.proofs.Parts.{lefts-length, stack-kept, drop_past, part-there, fill-rest, bounds}
+use Rattle.zipper.proofs.Parts.{lefts-length, entry-set, entry-others, stack-kept, drop_past, part-there, fill-rest, bounds}
 
 -- A frame's kind in eight bytes is its record.
 kind-bytes : (f : Frame) → bytes 8 (kind_of f) ≡ record8 (kind_of f) 0 []
@@ -29,11 +31,11 @@ kind-bytes (done applies a) = refl
 kind-bytes (done adds a) = refl
 kind-bytes (choosing a b) = refl
 
-module _ {e fs : List ℕ} {l r n : ℕ} {K : List Frame} where
+module _ {e : List ℕ} {fs : List Entry} {l r n : ℕ} {K : List Frame} where
   -- At a filled frame: into its first part.
-  pub enter : (g : Frame) (t : Term) → Done g → between g ≡ [] → gone g ≡ 0 → side g ≡ 0 → Zip e fs l r n K (fill g t) → (k : ℕ) → k ≡ kind_of g
-      → (e' fs' : List ℕ) → e' ≡ put e (8 * l) (bytes 8 k) → fs' ≡ set fs n (2 * l) → Zip e' fs' (l + 1) (r + 1) (n + 1) (g ∷ K) t
-  enter g t d o z c h k y e' fs' p q =
+  pub enter : (g : Frame) (t : Term) → Done g → between g ≡ [] → gone g ≡ 0 → is_half_done g ≡ false → Zip e fs l r n K (fill g t) → (k : ℕ) → k ≡ kind_of g
+      → (e' : List ℕ) (fs' : List Entry) → e' ≡ put e (8 * l) (bytes 8 k) → fs' ≡ set fs n record { place = l; done = false } → Zip e' fs' (l + 1) (r + 1) (n + 1) (g ∷ K) t
+  enter g t d o z k' h k y e' fs' p q =
       let b = bounds h in
       let v : List ℕ = record8 (kind_of g) 0 [] in
       let lv : length v ≡ 8 = record-length (kind_of g) 0 [] in
@@ -50,27 +52,28 @@ module _ {e fs : List ℕ} {l r n : ℕ} {K : List Frame} where
         order = omega (arith, h.order);
         deep = omega arith;
         stack = (
-          rw (q, i) (get_or-set_same fs n (2 * l) 0 j ∙ omega arith),
-          stack-kept fs fs' K (λ x u. rw q (get_or-set_other fs n x (2 * l) 0 (λ y. omega arith))) h.stack,
+          rw (q, i, k', ← s) (entry-set fs n record { place = l; done = false } j),
+          stack-kept fs fs' K (λ x u. rw q (entry-others fs n record { place = l; done = false } x (λ y. omega arith))) h.stack,
         );
         fine = (d, h.fine);
         sound = h.sound;
         wide = rw p' (put-length e (8 * l) v f ∙ h.wide);
-        high = rw q (rw (length-set fs n (2 * l)) h.high);
+        high = rw q (rw (length-set fs n record { place = l; done = false }) h.high);
       }
 
   -- At a value whose pair's second part is to come: on to it.
-  pub turn : (w : Pair) (b v : Term) → Zip e fs l r n (to_come w b ∷ K) v → is_value v ≡ true → (end : ℕ) → end ≡ r + records v → (top : ℕ) → top ≡ get_or fs (n - 1) 0
-      → (e' fs' : List ℕ) → e' ≡ put e (8 * l) (part e (8 * r) (8 * (end - r))) → fs' ≡ set fs (n - 1) (top + 1)
+  pub turn : (w : Pair) (b v : Term) → Zip e fs l r n (to_come w b ∷ K) v → is_value v ≡ true → (end : ℕ) → end ≡ r + records v → (top : Entry) → top ≡ get_or fs (n - 1) record { place = 0; done = false }
+      → (e' : List ℕ) (fs' : List Entry) → e' ≡ put e (8 * l) (part e (8 * r) (8 * (end - r))) → fs' ≡ set fs (n - 1) record { place = top.place; done = true }
       → Zip e' fs' (l + (end - r)) end n (done w v ∷ K) b
   turn o b v h w end z top t e' fs' p q =
       let k = bounds h in
       let lv : length (encode v) ≡ 8 * records v = encode-length v in
       let d : n ≡ length K + 1 = omega (arith, h.deep) in
       let i : n - 1 ≡ length K = omega arith in
-      let s : get_or fs (length K) 0 ≡ 2 * left_size K + 0 = h.stack.0 in
-      let t' : top ≡ 2 * left_size K + 0 = t ∙ ap (λ (x : ℕ). get_or fs x 0) i ∙ s in
-      let q' : fs' ≡ set fs (length K) (top + 1) = q ∙ ap (λ (x : ℕ). set fs x (top + 1)) i in
+      let t' : top.place ≡ left_size K =
+      ap (λ (x : Entry). x.place) (t ∙ ap (λ (x : ℕ). get_or fs x record { place = 0; done = false }) i ∙ get_or_from_slice_get fs (length K) _ _ h.stack.0) in
+      let q' : fs' ≡ set fs (length K) record { place = left_size K; done = true } =
+      q ∙ ap₂ (λ (x y : ℕ). set fs x record { place = y; done = true }) i t' in
       let g : length K < length fs = omega (arith, h.high) in
       let y : part e (8 * r) (8 * (end - r)) ≡ encode v = part-there e (8 * r) (8 * (end - r)) (encode v) (encode b ++ rights K) h.right (omega arith) in
       let p' : e' ≡ put e (8 * l) (encode v) = p ∙ ap (put e (8 * l)) y in
@@ -83,13 +86,13 @@ module _ {e fs : List ℕ} {l r n : ℕ} {K : List Frame} where
         order = omega (arith, h.order);
         deep = h.deep;
         stack = (
-          rw q' (get_or-set_same fs (length K) (top + 1) 0 g ∙ omega arith),
-          stack-kept fs fs' K (λ x c. rw q' (get_or-set_other fs (length K) x (top + 1) 0 (λ y. omega arith))) h.stack.1,
+          rw q' (entry-set fs (length K) record { place = left_size K; done = true } g),
+          stack-kept fs fs' K (λ x c. rw q' (entry-others fs (length K) record { place = left_size K; done = true } x (λ y. omega arith))) h.stack.1,
         );
         fine = (w, h.fine.1);
         sound = h.sound;
         wide = rw p' (put-length e (8 * l) (encode v) f ∙ h.wide);
-        high = rw q' (rw (length-set fs (length K) (top + 1)) h.high);
+        high = rw q' (rw (length-set fs (length K) record { place = left_size K; done = true }) h.high);
       }
 
   -- The innermost frame's record, and what is done after it.

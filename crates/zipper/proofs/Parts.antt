@@ -1,10 +1,12 @@
 -- The bytes and records of frames, and what a laid out zipper has. Assumes nothing.
 use mathlib.Core.List.{List, [], ◌∷◌, ◌++◌, append_assoc, append-nil}
 use mathlib.Core.Path.{◌≡◌, refl, sym, ap, ap₂, ◌∙◌}
-use Prim.Native.Nat.{ℕ, ◌+◌, ◌-◌, ◌*◌, ◌<◌, ◌≤◌}
+use Prim.Native.Nat.{ℕ, zero, suc, ◌+◌, ◌-◌, ◌*◌, ◌<◌, ◌≤◌}
 use native.Mathlib.Omega.{arith}
-use lib.ListN.{length, take, drop, get_or, length-append, length-drop}
-use lib.Seq.{take_at, drop_at, drop-drop}
+use lib.ListN.{length, take, drop, set, length-append, length-drop, length-set}
+use lib.Seq.{take_at, drop_at, drop-drop, get_or-set_same}
+use Rattle.std.specs.Prelude.{Some, slice_get}
+use Rattle.std.proofs.lemmas.Option.{slice_get-get_or}
 use Rattle.words.specs.Bytes.{part}
 use Rattle.calculus.specs.Term.{Term, view, records, Bare}
 use Rattle.calculus.specs.Term.Term.{var, fun, con, lam, app, call_event, emit, sum, branch}
@@ -12,6 +14,7 @@ use Rattle.terms.specs.Record.{count, kind_at, record8}
 use Rattle.terms.specs.Encode.{encode, Fits}
 use Rattle.terms.proofs.Stands.{Stands}
 use Rattle.terms.proofs.Encode.{record-length, encode-length, record-rest, encode-stands}
+use Rattle.zipper.specs.declared.Entry.{Entry}
 use Rattle.zipper.specs.Frame.{Pair, join, pair_kind, Frame, kind_of, fill, plug}
 use Rattle.zipper.specs.Frame.Pair.{applies, adds}
 use Rattle.zipper.specs.Frame.Frame.{to_come, done, choosing}
@@ -79,8 +82,21 @@ plug-records K t =
       encode-length t,
     )
 
+-- An entry that is written, …
+pub entry-set : (fs : List Entry) (n : ℕ) (x : Entry) → n < length fs → slice_get (set fs n x) n ≡ Some x
+entry-set fs n x h =
+    slice_get-get_or (set fs n x) n x (rw (length-set fs n x) h) ∙ ap Some (get_or-set_same fs n x x h)
+
+-- … and the others.
+pub entry-others : (fs : List Entry) (n : ℕ) (x : Entry) (i : ℕ) → (i ≡ n → ⊥) → slice_get (set fs n x) i ≡ slice_get fs i
+entry-others [] n x i h = refl
+entry-others (y ∷ fs) zero x zero h = absurd (h refl)
+entry-others (y ∷ fs) zero x (suc i) h = refl
+entry-others (y ∷ fs) (suc n) x zero h = refl
+entry-others (y ∷ fs) (suc n) x (suc i) h = entry-others fs n x i (λ e. h (ap suc e))
+
 -- A stack keeps its frames where its entries are kept.
-pub stack-kept : (fs fs' : List ℕ) (K : List Frame) → ((i : ℕ) → i < length K → get_or fs' i 0 ≡ get_or fs i 0) → Stack fs K → Stack fs' K
+pub stack-kept : (fs fs' : List Entry) (K : List Frame) → ((i : ℕ) → i < length K → slice_get fs' i ≡ slice_get fs i) → Stack fs K → Stack fs' K
 stack-kept fs fs' [] e h = tt
 stack-kept fs fs' (f ∷ K) e h = (e (length K) (omega arith) ∙ h.0, stack-kept fs fs' K (λ i k. e i (omega arith)) h.1)
 
@@ -134,7 +150,7 @@ pub record Bounds (l r n m : ℕ) : Type 0 where
   pub few-frames : n ≤ l
   pub end-in : r + m ≤ 3072
 
-module _ {e fs : List ℕ} {l r n : ℕ} {K : List Frame} {t : Term} (h : Zip e fs l r n K t) where
+module _ {e : List ℕ} {fs : List Entry} {l r n : ℕ} {K : List Frame} {t : Term} (h : Zip e fs l r n K t) where
   -- The focus is bare.
   pub focus-bare : Bare t
   focus-bare = plug-part bare-shared K t h.sound.bare

@@ -17,6 +17,7 @@ use Rattle.calculus.specs.Step.Next.{next}
 use Rattle.terms.specs.Record.{count, record_number, record8}
 use Rattle.terms.specs.Encode.{encode, Fits}
 use Rattle.terms.proofs.Encode.{record-rest, encode-length, encode-stands}
+use Rattle.zipper.specs.declared.Entry.{Entry}
 use Rattle.zipper.specs.Frame.{plug}
 use Rattle.zipper.specs.Frame.Pair.{adds}
 use Rattle.zipper.specs.Layout.{rights}
@@ -26,7 +27,7 @@ use Rattle.zipper.proofs.Parts.{records-some, drop_past, part-there, bounds, foc
 use Rattle.zipper.proofs.Moves.{first-stands}
 use Rattle.zipper.proofs.Whole.{end-there}
 use Rattle.zipper.proofs.Landing.{fewer-small, landed}
-use Rattle.zipper.proofs.Redex.{Added, Chosen}
+use Rattle.zipper.proofs.Redexes.{Added, Chosen}
 
 -- ---- a sum
 
@@ -48,7 +49,7 @@ numbered e r k i j rest d e' m c =
     rw m (put_rest e (8 * r + 4) v fit) ∙ ap (λ (x : List ℕ). v ++ x) (ap (λ (x : ℕ). drop x e) q ∙ record-rest e r k i rest d) in
     sym (take-append-drop 4 (drop (8 * r) e')) ∙ ap₂ (λ (x y : List ℕ). x ++ y) old (drop-drop 4 (8 * r) e' ∙ new)
 
-module _ {e fs : List ℕ} {p l r n : ℕ} {T : Term} (h : Added e fs p l r n T) where
+module _ {e : List ℕ} {fs : List Entry} {p l r n : ℕ} {T : Term} (h : Added e fs p l r n T) where
   -- The sum.
   abbrev total : ℕ
   total = h.first + h.second
@@ -87,7 +88,7 @@ module _ {e fs : List ℕ} {p l r n : ℕ} {T : Term} (h : Added e fs p l r n T)
 
 -- ---- a branch
 
-module _ {e fs : List ℕ} {p l r n : ℕ} {T : Term} (h : Chosen e fs p l r n T) where
+module _ {e : List ℕ} {fs : List Entry} {p l r n : ℕ} {T : Term} (h : Chosen e fs p l r n T) where
   -- On 0 the step leads to the second term, …
   pub second-step : (C : Codebase) → h.number ≡ 0 → step C T ≡ next quiet (plug h.frames h.second)
   unfolding is_value constant
@@ -107,9 +108,6 @@ module _ {e fs : List ℕ} {p l r n : ℕ} {T : Term} (h : Chosen e fs p l r n T
   -- The number, as it is read.
   pub number_read : record_number e r ≡ h.number
   number_read = (focus-stands h.zip).number
-
-  pub number-inside : r < count e
-  number-inside = (focus-stands h.zip).inside
 
   parts-bare : Bare (branch (con h.number) h.second h.third)
   parts-bare = plug-part bare-shared h.frames (branch (con h.number) h.second h.third) h.zip.sound.bare

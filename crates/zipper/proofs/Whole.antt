@@ -1,22 +1,18 @@
 -- The whole expression as a function of the bytes, and where terms end. Assumes nothing.
-use mathlib.Core.Bool.{true}
 use mathlib.Core.List.{List, [], append-nil}
 use mathlib.Core.Path.{◌≡◌, sym, ap, ◌∙◌}
 use Prim.Native.Nat.{ℕ, ◌+◌}
 use Rattle.std.specs.Prelude.{unwrap_or}
-use Rattle.calculus.specs.Term.{Term, Codebase, is_value, records}
-use Rattle.calculus.specs.Step.{step}
-use Rattle.calculus.specs.Step.Next.{at_stuck}
+use Rattle.calculus.specs.Term.{Term, records}
 use Rattle.terms.specs.Read.{read_at, term_of, term_at}
 use Rattle.terms.specs.Encode.{encode}
 use Rattle.terms.specs.Walk.{passed_of}
 use Rattle.terms.proofs.Stands.{Stands, stands_read}
 use Rattle.terms.proofs.Encode.{read-encode}
+use Rattle.zipper.specs.declared.Entry.{Entry}
 use Rattle.zipper.specs.Frame.{Frame, plug}
 use Rattle.zipper.specs.Layout.{Zip}
-use Rattle.zipper.specs.Zipper.{whole_in, end_at, Whole, ZipOf, Flat, Poised, SoughtIs}
-use Rattle.zipper.specs.declared.Sought.{Sought}
-use Rattle.zipper.specs.declared.Sought.TheVariants.{Value, Stuck, Redex}
+use Rattle.zipper.specs.Zipper.{whole_in, end_at, Whole, ZipOf, Flat, Poised}
 use Rattle.zipper.proofs.Parts.{bounds, together}
 
 -- A term that stands at a record ends after its records.
@@ -30,7 +26,7 @@ unfolding end_at
 whole-there s i t h = rw (stands_read s i t h)
 
 -- The two parts of a zipper are the bytes of the whole.
-flat-zip : {e fs : List ℕ} {l r n : ℕ} {K : List Frame} {t T : Term} → Zip e fs l r n K t → plug K t ≡ T → Flat e l r T
+flat-zip : {e : List ℕ} {fs : List Entry} {l r n : ℕ} {K : List Frame} {t T : Term} → Zip e fs l r n K t → plug K t ≡ T → Flat e l r T
 flat-zip h w = record {
   bytes = together h ∙ ap encode w;
   order = h.order;
@@ -40,11 +36,11 @@ flat-zip h w = record {
 }
 
 -- Buffers that hold T have its bytes in the two parts, …
-pub zip-flat : {e fs : List ℕ} {l r n : ℕ} {T : Term} → ZipOf e fs l r n T → Flat e l r T
+pub zip-flat : {e : List ℕ} {fs : List Entry} {l r n : ℕ} {T : Term} → ZipOf e fs l r n T → Flat e l r T
 zip-flat h = flat-zip h.zip h.whole
 
 -- … and so they have at its redex.
-pub poised-flat : {e fs : List ℕ} {p l r n : ℕ} {T : Term} → Poised e fs p l r n T → Flat e l r T
+pub poised-flat : {e : List ℕ} {fs : List Entry} {p l r n : ℕ} {T : Term} → Poised e fs p l r n T → Flat e l r T
 poised-flat h = flat-zip h.zip h.whole
 
 -- The term whose bytes the two parts are is the whole expression.
@@ -54,17 +50,17 @@ flat-whole {T = T} h =
     ap (λ (s : List ℕ). term_of (read_at s 0)) (h.bytes ∙ sym (append-nil (encode T))) ∙ ap term_of (read-encode T [] h.sound.fits)
 
 -- The same for buffers that hold T, …
-pub zip-whole : {e fs : List ℕ} {l r n : ℕ} {T : Term} → ZipOf e fs l r n T → whole_in e l r ≡ T
+pub zip-whole : {e : List ℕ} {fs : List Entry} {l r n : ℕ} {T : Term} → ZipOf e fs l r n T → whole_in e l r ≡ T
 zip-whole h = flat-whole (zip-flat h)
 
 -- … and at its redex.
-pub poised-whole : {e fs : List ℕ} {p l r n : ℕ} {T : Term} → Poised e fs p l r n T → whole_in e l r ≡ T
+pub poised-whole : {e : List ℕ} {fs : List Entry} {p l r n : ℕ} {T : Term} → Poised e fs p l r n T → whole_in e l r ≡ T
 poised-whole h = flat-whole (poised-flat h)
 
 -- ---- the same with the expression that the bytes give, as the contracts have it
 
 -- Buffers that hold some expression hold the one that their bytes give.
-pub zip-own : {e fs : List ℕ} {l r n : ℕ} {T : Term} → ZipOf e fs l r n T → ZipOf e fs l r n (whole_in e l r)
+pub zip-own : {e : List ℕ} {fs : List Entry} {l r n : ℕ} {T : Term} → ZipOf e fs l r n T → ZipOf e fs l r n (whole_in e l r)
 zip-own h = rw (zip-whole h) h
 
 -- So do the two parts, …
@@ -72,17 +68,5 @@ pub flat-own : {e : List ℕ} {l r : ℕ} {T : Term} → Flat e l r T → Flat e
 flat-own h = rw (flat-whole h) h
 
 -- … and so do buffers at a redex.
-pub poised-own : {e fs : List ℕ} {p l r n : ℕ} {T : Term} → Poised e fs p l r n T → Poised e fs p l r n (whole_in e l r)
+pub poised-own : {e : List ℕ} {fs : List Entry} {p l r n : ℕ} {T : Term} → Poised e fs p l r n T → Poised e fs p l r n (whole_in e l r)
 poised-own h = rw (poised-whole h) h
-
--- ---- an answer of the search, by its case
-
-module _ (T : Term) (x : Sought) (e fs : List ℕ) (h : SoughtIs T x e fs) where
-  pub sought-value : (l r : ℕ) → x ≡ Value l r → (is_value T ≡ true) × Flat e l r T
-  sought-value l r q = rw q at h
-
-  pub sought-stuck : (l r : ℕ) → x ≡ Stuck l r → ((C : Codebase) → step C T ≡ at_stuck) × Flat e l r T
-  sought-stuck l r q = rw q at h
-
-  pub sought-redex : (p l r n : ℕ) → x ≡ Redex p l r n → Poised e fs p l r n T
-  sought-redex p l r n q = rw q at h

@@ -1,11 +1,12 @@
 -- The zipper in its buffers: what stands before the focus at the front of e, the focus and what follows it at e's end, the places of the
 -- frames around the focus in fs. Assumes nothing.
-use Rattle.std.specs.Prelude.{List, [], ◌∷◌, ◌++◌, ◌≡◌, ℕ, ◌+◌, ◌*◌, ◌≤◌, length, take, drop, get_or}
+use Rattle.std.specs.Prelude.{Bool, true, false, List, [], ◌∷◌, ◌++◌, ◌≡◌, ℕ, ◌+◌, ◌*◌, ◌≤◌, length, take, drop, slice_get, Some}
 use Rattle.calculus.specs.Term.{Term, records, Bare}
 use Rattle.terms.specs.Record.{record8}
 use Rattle.terms.specs.Encode.{encode, Fits}
 use Rattle.zipper.specs.Frame.{Frame, kind_of, plug, Fine}
 use Rattle.zipper.specs.Frame.Frame.{to_come, done, choosing}
+use Rattle.zipper.specs.declared.Entry.{Entry}
 
 -- The bytes between a frame's record and the focus: a part that is done.
 abbrev pub between : Frame → List ℕ
@@ -40,16 +41,16 @@ abbrev pub left_size : List Frame → ℕ
 left_size [] = 0
 left_size (f ∷ K) = left_size K + 1 + gone f
 
--- The flag of a frame.
-abbrev pub side : Frame → ℕ
-side (to_come w b) = 0
-side (done w a) = 1
-side (choosing a b) = 0
+-- Whether a frame's first part is done.
+abbrev pub is_half_done : Frame → Bool
+is_half_done (to_come w b) = false
+is_half_done (done w a) = true
+is_half_done (choosing a b) = false
 
--- The stack of entries, the outermost frame's first: twice the place of the frame's record, and its flag.
-abbrev pub Stack : List ℕ → List Frame → Type 0
+-- The stack of entries, the outermost frame's first: the place of the frame's record, and whether its first part is done.
+abbrev pub Stack : List Entry → List Frame → Type 0
 Stack fs [] = Unit {0}
-Stack fs (f ∷ K) = (get_or fs (length K) 0 ≡ 2 * left_size K + side f) × Stack fs K
+Stack fs (f ∷ K) = (slice_get fs (length K) ≡ Some record { place = left_size K; done = is_half_done f }) × Stack fs K
 
 -- An expression that a run holds: no command in it, numbers of four bytes, at most 1,024 records.
 pub record Expression (T : Term) : Type 0 where
@@ -58,7 +59,7 @@ pub record Expression (T : Term) : Type 0 where
   pub small : records T ≤ 1024
 
 -- e and fs hold the focus t in the frames K: l records at the front, a gap, the rest from record r on, and n entries.
-pub record Zip (e fs : List ℕ) (l r n : ℕ) (K : List Frame) (t : Term) : Type 0 where
+pub record Zip (e : List ℕ) (fs : List Entry) (l r n : ℕ) (K : List Frame) (t : Term) : Type 0 where
   pub left : take (8 * l) e ≡ lefts K
   pub right : drop (8 * r) e ≡ encode t ++ rights K
   pub sized : l ≡ left_size K

@@ -12,8 +12,10 @@ use Rattle.terms.specs.Encode.{encode}
 use Rattle.terms.specs.Walk.{pass_term}
 use Rattle.zipper.specs.Frame.{Frame, fill, plug, Fires}
 use Rattle.zipper.specs.Layout.{left_size, Expression, Zip}
+use Rattle.zipper.specs.declared.Entry.{Entry}
+use Rattle.zipper.specs.declared.Redex.{Redex}
 use Rattle.zipper.specs.declared.Sought.{Sought}
-use Rattle.zipper.specs.declared.Sought.TheVariants.{Value, Stuck, Redex}
+use Rattle.zipper.specs.declared.Sought.TheVariants as sought
 
 -- The whole expression: the term that the two parts are together.
 unfoldable pub whole_in : List ℕ → ℕ → ℕ → Term
@@ -32,7 +34,7 @@ unfoldable pub copied_to : List ℕ → ℕ → ℕ → List ℕ
 copied_to e l r = put e (8 * l) (part e (8 * r) (8 * (end_at e r - r)))
 
 -- The buffers hold T as a focus in frames.
-pub record ZipOf (e fs : List ℕ) (l r n : ℕ) (T : Term) : Type 0 where
+pub record ZipOf (e : List ℕ) (fs : List Entry) (l r n : ℕ) (T : Term) : Type 0 where
   pub frames : List Frame
   pub focus : Term
   pub zip : Zip e fs l r n frames focus
@@ -47,7 +49,7 @@ pub record Flat (e : List ℕ) (l r : ℕ) (T : Term) : Type 0 where
   pub sound : Expression T
 
 -- The buffers hold T at its next redex: the innermost frame's record at p, what is done from p + 1 to below l, the focus, a value, at r.
-pub record Poised (e fs : List ℕ) (p l r n : ℕ) (T : Term) : Type 0 where
+pub record Poised (e : List ℕ) (fs : List Entry) (p l r n : ℕ) (T : Term) : Type 0 where
   pub frames : List Frame
   pub frame : Frame
   pub focus : Term
@@ -57,28 +59,28 @@ pub record Poised (e fs : List ℕ) (p l r n : ℕ) (T : Term) : Type 0 where
   pub fires : Fires frame focus
 
 -- What a search for T's next redex answers, and leaves in the buffers. The outcomes *value* and *stuck* hold for every codebase.
-abbrev pub SoughtIs : Term → Sought → List ℕ → List ℕ → Type 0
-SoughtIs T (Value l r) e fs = (is_value T ≡ true) × Flat e l r T
-SoughtIs T (Stuck l r) e fs = ((C : Codebase) → step C T ≡ at_stuck) × Flat e l r T
-SoughtIs T (Redex p l r n) e fs = Poised e fs p l r n T
+abbrev pub SoughtIs : Term → Sought → List ℕ → List Entry → Type 0
+SoughtIs T (sought.Value g) e fs = (is_value T ≡ true) × Flat e g.l g.r T
+SoughtIs T (sought.Stuck g) e fs = ((C : Codebase) → step C T ≡ at_stuck) × Flat e g.l g.r T
+SoughtIs T (sought.Redex x) e fs = Poised e fs x.p x.gap.l x.gap.r x.depth T
 
 -- The answer at a function and an argument, by the function's kind: a function name, 2, and an abstraction, 4, are applied; all else is stuck.
-abbrev pub head_case : ℕ → ℕ → ℕ → ℕ → ℕ → Sought
-head_case k p l r n = cond (eqb k 2 || eqb k 4) (Redex p l r n) (Stuck l r)
+abbrev pub head_case : ℕ → Redex → Sought
+head_case k x = cond (eqb k 2 || eqb k 4) (sought.Redex x) (sought.Stuck x.gap)
 
 -- The answer at two values in a sum: two constants, 3, whose sum fits are added.
-unfoldable pub sum_case : ℕ → ℕ → ℕ → ℕ → ℕ → ℕ → ℕ → ℕ → Sought
-sum_case k k' i j p l r n = cond (eqb k 3 && (eqb k' 3 && leb (i + j) greatest)) (Redex p l r n) (Stuck l r)
+unfoldable pub sum_case : ℕ → ℕ → ℕ → ℕ → Redex → Sought
+sum_case k k' i j x = cond (eqb k 3 && (eqb k' 3 && leb (i + j) greatest)) (sought.Redex x) (sought.Stuck x.gap)
 
 -- The answer at two values, the first at record p + 1, the second at r, by the kind of the record at p.
-unfoldable pub pair_case : List ℕ → ℕ → ℕ → ℕ → ℕ → Sought
-pair_case e p l r n =
-    cond (eqb (kind_at e p) 5) (head_case (kind_at e (p + 1)) p l r n)
-    (cond (eqb (kind_at e p) 9) (sum_case (kind_at e (p + 1)) (kind_at e r) (record_number e (p + 1)) (record_number e r) p l r n) (Stuck l r))
+unfoldable pub pair_case : List ℕ → Redex → Sought
+pair_case e x =
+    cond (eqb (kind_at e x.p) 5) (head_case (kind_at e (x.p + 1)) x)
+    (cond (eqb (kind_at e x.p) 9) (sum_case (kind_at e (x.p + 1)) (kind_at e x.gap.r) (record_number e (x.p + 1)) (record_number e x.gap.r) x) (sought.Stuck x.gap))
 
 -- The answer at a branch on a value of kind k: a constant decides.
-abbrev pub branch_case : ℕ → ℕ → ℕ → ℕ → ℕ → Sought
-branch_case k p l r n = cond (eqb k 3) (Redex p l r n) (Stuck l r)
+abbrev pub branch_case : ℕ → Redex → Sought
+branch_case k x = cond (eqb k 3) (sought.Redex x) (sought.Stuck x.gap)
 
 -- The file ends with the term at record i, an expression.
 pub record Last (s : List ℕ) (i : ℕ) : Type 0 where

@@ -7,15 +7,15 @@ use Rattle.machine.proofs.Contract.{ready-source, ready-around, fire-made, fire-
 use Rattle.machine.proofs.apply.Goals as goal
 
 pub room-end-requires : goal.room-end-requires
-room-end-requires c = ready-around c.requires.ready c.requires.p_value c.requires.positions
+room-end-requires c = ready-around c.requires.ready c.requires.p_value c.args.code.now.positions
 
 pub reduce-requires-clause-source : goal.reduce-requires-clause-source
-reduce-requires-clause-source c = ready-source c.requires.ready c.requires.p_value c.requires.positions
+reduce-requires-clause-source c = ready-source c.requires.ready c.requires.p_value c.args.code.now.positions
 
 pub returns-in_err-q : goal.returns-in_err-q
 returns-in_err-q c =
-    rw c.from_residual.ensures (fire-over c.requires.ready c.requires.p_value c.requires.positions _ c.room-end.ensures.end-is _ None _ c.in_err-q.ensures (omega (arith, length-take c.room-end.result.1 c.args.scratch.now)) refl)
+    rw c.from_residual.ensures (fire-over c.requires.ready c.requires.p_value c.args.code.now.positions _ c.room-end.ensures.end-is _ None _ c.in_err-q.ensures (omega (arith, length-take c.room-end.result.1 c.args.scratch.now)) refl)
 
 pub returns : goal.returns
 returns c =
-    fire-made c.requires.ready c.requires.p_value c.requires.positions _ c.room-end.ensures.end-is _ (Some _) _ c.in_ok-q.ensures (omega (arith, length-take c.room-end.result.1 c.args.scratch.now)) _ refl _ c.copy.ensures
+    fire-made c.requires.ready c.requires.p_value c.args.code.now.positions _ c.room-end.ensures.end-is _ (Some _) _ c.in_ok-q.ensures (omega (arith, length-take c.room-end.result.1 c.args.scratch.now)) _ refl _ c.copy.ensures

@@ -7,7 +7,7 @@ use Rattle.machine.proofs.Bodies.{Passing}
 use Rattle.machine.proofs.find_bodies.Given as goal
 
 abbrev pub invariant-loop-at : goal.invariant-loop-at
-invariant-loop-at l = Passing l.script l.bodies l.marks l.at l.f × (length l.bodies ≡ length l.initial.bodies) × (length l.marks ≡ length l.initial.marks)
+invariant-loop-at l = Passing l.script l.bodies l.at l.f × (length l.bodies ≡ length l.initial.bodies)
 
 abbrev pub decreases-loop-at : goal.decreases-loop-at
 decreases-loop-at l = length l.script / 8 - l.at

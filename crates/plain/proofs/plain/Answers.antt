@@ -1,7 +1,8 @@
 -- `plain::plain` meets its contract: a refusal, or the run in the parts that are lent. Assumes nothing.
 use mathlib.Core.Path.{sym, ◌∙◌}
 use native.Mathlib.Omega.{arith}
-use lib.ListN.{length, length-take}
+use lib.ListN.{length}
+use Rattle.std.proofs.lemmas.Option.{MatchOption-at_some}
 use Rattle.refusal.proofs.Handed.{handed-on}
 use Rattle.script.specs.declared.Purpose.TheVariants as purposes
 use Rattle.machine.proofs.Program.{accepted-formed}
@@ -15,27 +16,18 @@ returns-in_err-check_call c =
 
 pub returns-in_err-check_script : goal.returns-in_err-check_script
 returns-in_err-check_script c =
-    rw (handed-on c.from_residual-in_err-check_script.result c.in_err-check_script.field-0.0 c.from_residual-in_err-check_script.ensures.1) (entry-refused _ _ _ _ c.in_err-check_script.field-0.0 (c.in_err-check_script.ensures ∙ sym (due-rest _ _ _ _ c.too_short.ensures c.in_ok-check_call.ensures)))
+    rw (handed-on c.from_residual-in_err-check_script.result c.in_err-check_script.field-0.0 c.from_residual-in_err-check_script.ensures.1) (entry-refused _ _ _ _ c.in_err-check_script.field-0.0 (c.in_err-check_script.ensures.verdict ∙ sym (due-rest _ _ _ _ c.too_short.ensures c.in_ok-check_call.ensures)))
 
-pub slice_bounds-finish-end : goal.slice_bounds-finish-end
-slice_bounds-finish-end c = (allowed c.args.script.now c.args.budget (length c.args.expression.now) (length c.args.scratch.now) c.too_short.ensures c.in_ok-check_call.ensures c.in_ok-check_script.ensures).expression
+pub unwrap-requires : goal.unwrap-requires
+unwrap-requires c = c.first_chunk_mut.ensures.variant.1 (allowed c.args.script.now c.args.budget (length c.args.expression.now) (length c.args.scratch.now) c.too_short.ensures c.in_ok-check_call.ensures c.in_ok-check_script.ensures.verdict).expression
 
-pub slice_bounds-finish-end-2 : goal.slice_bounds-finish-end-2
-slice_bounds-finish-end-2 c =
-    let a = allowed c.args.script.now c.args.budget (length c.args.expression.now) (length c.args.scratch.now) c.too_short.ensures c.in_ok-check_call.ensures c.in_ok-check_script.ensures in simp length-take (omega arith)
-
-pub slice_bounds-finish-end-3 : goal.slice_bounds-finish-end-3
-slice_bounds-finish-end-3 c = (allowed c.args.script.now c.args.budget (length c.args.expression.now) (length c.args.scratch.now) c.too_short.ensures c.in_ok-check_call.ensures c.in_ok-check_script.ensures).scratch
-
-pub slice_bounds-finish-end-4 : goal.slice_bounds-finish-end-4
-slice_bounds-finish-end-4 c =
-    let a = allowed c.args.script.now c.args.budget (length c.args.expression.now) (length c.args.scratch.now) c.too_short.ensures c.in_ok-check_call.ensures c.in_ok-check_script.ensures in simp length-take (omega arith)
+pub unwrap-requires-2 : goal.unwrap-requires-2
+unwrap-requires-2 c = c.first_chunk_mut-2.ensures.variant.1 (allowed c.args.script.now c.args.budget (length c.args.expression.now) (length c.args.scratch.now) c.too_short.ensures c.in_ok-check_call.ensures c.in_ok-check_script.ensures.verdict).scratch
 
 pub finish-requires : goal.finish-requires
 finish-requires c =
-    let a = allowed c.args.script.now c.args.budget (length c.args.expression.now) (length c.args.scratch.now) c.too_short.ensures c.in_ok-check_call.ensures c.in_ok-check_script.ensures in
-    record { formed = accepted-formed purposes.PlainRun c.args.script.now (λ i. omega (arith, c.type_inv.script i)) a.script; e_len = simp length-take (omega arith); scratch_len = simp length-take (omega arith) }
+    accepted-formed purposes.PlainRun c.args.script.now (λ i. omega (arith, c.type_inv.script i)) (sym c.in_ok-check_script.ensures.verdict)
 
 pub returns : goal.returns
 returns c =
-    entry-ran _ _ _ _ (c.in_ok-check_script.ensures ∙ sym (due-rest _ _ _ _ c.too_short.ensures c.in_ok-check_call.ensures)) _ _ _ c.finish.ensures
+    entry-ran _ _ _ _ (c.in_ok-check_script.ensures.verdict ∙ sym (due-rest _ _ _ _ c.too_short.ensures c.in_ok-check_call.ensures)) (MatchOption-at_some _ _ _ c.unwrap.ensures c.first_chunk_mut.ensures.cases).same (MatchOption-at_some _ _ _ c.unwrap-2.ensures c.first_chunk_mut-2.ensures.cases).same c.finish.ensures

@@ -8,6 +8,6 @@ loop-i-init c = marks-none _
 pub loop-i-preserved : goal.loop-i-preserved
 loop-i-preserved c =
     elim c.if-f-lt128.branch [
-      | then-f-lt128 w ↦ rw w.marks-is (marks-on c.loop-i.invariant c.first_number-f.ensures w.if-f-lt128.true w.kind.ensures w.marked.ensures)
+      | then-f-lt128 w ↦ rw w.marks-is (marks-on c.loop-i.invariant c.first_number-f.ensures w.if-f-lt128.true w.marked.ensures)
       | else-f-lt128 w ↦ rw w.marks-is (marks-past c.loop-i.invariant c.first_number-f.ensures w.if-f-lt128.false)
     ]

@@ -24,48 +24,47 @@ script-ok s b e = script-passed s (λ i. omega (arith, b i)) e refl
 both_ok : {s : List ℕ} (g : List ℕ) {n : ℕ} → ScriptPassed s → ((i : ℕ) → Fits w8 (get_or g i 0)) → n ≡ definition_count (file_of s) → accepted ≡ guideline_verdict n g → Passed s g
 both_ok g p b d e = passed g p (λ i. omega (arith, b i)) d e refl
 
-pub returns-in_err-check_script : goal.returns-in_err-check_script
-returns-in_err-check_script c =
-    rw (handed-on c.from_residual.result c.in_err-check_script.field-0.0 c.from_residual.ensures.1) (script-refused _ _ _ c.in_err-check_script.field-0.0 c.in_err-check_script.ensures)
-
-pub overflow_cast-definitions : goal.overflow_cast-definitions
-overflow_cast-definitions c = omega (arith, script-few (script-ok c.args.script.now c.type_inv.script c.in_ok-check_script.ensures), c.definitions-definitions.ensures)
+pub returns-in_err-definitions : goal.returns-in_err-definitions
+returns-in_err-definitions c =
+    rw (handed-on c.from_residual.result c.in_err-definitions.field-0.0 c.from_residual.ensures.1) (script-refused _ _ _ c.in_err-definitions.field-0.0 c.in_err-definitions.ensures.verdict)
 
 pub returns-in_err-check_guideline : goal.returns-in_err-check_guideline
 returns-in_err-check_guideline c =
-    rw (handed-on c.from_residual-in_err-check_guideline.result c.in_err-check_guideline.field-0.0 c.from_residual-in_err-check_guideline.ensures.1) (guideline-refused _ _ _ c.in_err-check_guideline.field-0.0 (script-ok c.args.script.now c.type_inv.script c.in_ok-check_script.ensures) c.definitions-definitions.ensures c.in_err-check_guideline.ensures)
+    let p = script-ok c.args.script.now c.type_inv.script c.in_ok-definitions.ensures.verdict in
+    rw (handed-on c.from_residual-in_err-check_guideline.result c.in_err-check_guideline.field-0.0 c.from_residual-in_err-check_guideline.ensures.1)
+    (guideline-refused _ _ _ c.in_err-check_guideline.field-0.0 p c.in_ok-definitions.ensures.counted c.in_err-check_guideline.ensures)
 
 pub gained-requires : goal.gained-requires
-gained-requires c = omega (arith, script-few (script-ok c.args.script.now c.type_inv.script c.in_ok-check_script.ensures), c.definitions-definitions.ensures)
+gained-requires c = omega (arith, script-few (script-ok c.args.script.now c.type_inv.script c.in_ok-definitions.ensures.verdict), c.in_ok-definitions.ensures.counted)
 
 pub overflow_add-records : goal.overflow_add-records
 overflow_add-records c =
-    let p = script-ok c.args.script.now c.type_inv.script c.in_ok-check_script.ensures in
-    omega (arith, script-few p, script-whole p, c.definitions-definitions.ensures, c.gained.ensures.1)
+    let p = script-ok c.args.script.now c.type_inv.script c.in_ok-definitions.ensures.verdict in
+    omega (arith, script-few p, script-whole p, c.in_ok-definitions.ensures.counted, c.gained.ensures.1)
 
 pub overflow_mul-records : goal.overflow_mul-records
 overflow_mul-records c =
-    let p = script-ok c.args.script.now c.type_inv.script c.in_ok-check_script.ensures in
-    omega (arith, script-few p, script-whole p, c.definitions-definitions.ensures, c.gained.ensures.1)
+    let p = script-ok c.args.script.now c.type_inv.script c.in_ok-definitions.ensures.verdict in
+    omega (arith, script-few p, script-whole p, c.in_ok-definitions.ensures.counted, c.gained.ensures.1)
 
 pub returns-then-out-records : goal.returns-then-out-records
 returns-then-out-records c =
-    let p = both_ok c.args.guideline.now (script-ok c.args.script.now c.type_inv.script c.in_ok-check_script.ensures) c.type_inv.guideline c.definitions-definitions.ensures c.in_ok-check_guideline.ensures in
-    rw c.whole.ensures (output-short _ _ _ p (written-length p c.marks_of-marks.ensures c.definitions-definitions.ensures c.gained.ensures.0) (omega (arith, c.if-out-records.true)))
+    let p = both_ok c.args.guideline.now (script-ok c.args.script.now c.type_inv.script c.in_ok-definitions.ensures.verdict) c.type_inv.guideline c.in_ok-definitions.ensures.counted c.in_ok-check_guideline.ensures in
+    rw c.whole.ensures (output-short _ _ _ p (written-length p c.marks_of-marks.ensures c.in_ok-definitions.ensures.counted c.gained.ensures.0) (omega (arith, c.if-out-records.true)))
 
 pub write-requires : goal.write-requires
 write-requires c =
-    let p = both_ok c.args.guideline.now (script-ok c.args.script.now c.type_inv.script c.in_ok-check_script.ensures) c.type_inv.guideline c.definitions-definitions.ensures c.in_ok-check_guideline.ensures in
-    let n = written-length p c.marks_of-marks.ensures c.definitions-definitions.ensures c.gained.ensures.0 in
+    let p = both_ok c.args.guideline.now (script-ok c.args.script.now c.type_inv.script c.in_ok-definitions.ensures.verdict) c.type_inv.guideline c.in_ok-definitions.ensures.counted c.in_ok-check_guideline.ensures in
+    let n = written-length p c.marks_of-marks.ensures c.in_ok-definitions.ensures.counted c.gained.ensures.0 in
     record { s_len = (script-whole p.script).0; s_in_bounds = omega (arith, ap length (grown-written p c.marks_of-marks.ensures), n, c.if-out-records.false) }
 
 pub overflow_cast-written : goal.overflow_cast-written
 overflow_cast-written c =
-    let p = script-ok c.args.script.now c.type_inv.script c.in_ok-check_script.ensures in
-    omega (arith, script-few p, script-whole p, c.definitions-definitions.ensures, c.gained.ensures.1)
+    let p = script-ok c.args.script.now c.type_inv.script c.in_ok-definitions.ensures.verdict in
+    omega (arith, script-few p, script-whole p, c.in_ok-definitions.ensures.counted, c.gained.ensures.1)
 
 pub returns : goal.returns
 returns c =
-    let p = both_ok c.args.guideline.now (script-ok c.args.script.now c.type_inv.script c.in_ok-check_script.ensures) c.type_inv.guideline c.definitions-definitions.ensures c.in_ok-check_guideline.ensures in
-    all-written _ _ _ p (written-length p c.marks_of-marks.ensures c.definitions-definitions.ensures c.gained.ensures.0) (omega (arith, c.if-out-records.false))
+    let p = both_ok c.args.guideline.now (script-ok c.args.script.now c.type_inv.script c.in_ok-definitions.ensures.verdict) c.type_inv.guideline c.in_ok-definitions.ensures.counted c.in_ok-check_guideline.ensures in
+    all-written _ _ _ p (written-length p c.marks_of-marks.ensures c.in_ok-definitions.ensures.counted c.gained.ensures.0) (omega (arith, c.if-out-records.false))
     c.write.ensures (grown-written p c.marks_of-marks.ensures)

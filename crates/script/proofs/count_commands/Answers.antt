@@ -1,12 +1,14 @@
-use Rattle.script.proofs.Search.{counted_start, counted-one, counted-other}
+-- `script::count_commands` meets its contract. Assumes nothing.
+use native.Mathlib.Omega.{arith}
+use borrow.Author.Rules.{rules}
+use borrow.Author.Tests.{tests}
+use Rattle.std.proofs.lemmas.Iterator.{YieldsList-from_range}
+use Rattle.std.proofs.lemmas.Iterator.Consumers.{count_from_yields_List, YieldsList-from_filter}
+use Rattle.terms.specs.Record.{count}
+use Rattle.script.specs.Check.{is_command}
+use Rattle.script.proofs.Search.{commands-counted}
 use Rattle.script.proofs.count_commands.Goals as goal
-use Rattle.script.proofs.count_commands.Goals.{then-is_command, else-is_command}
 
-pub loop-i-init : goal.loop-i-init
-loop-i-init c = counted_start _
-
-pub loop-i-preserved : goal.loop-i-preserved
-loop-i-preserved c =
-    let h = c.loop-i.invariant in
-    let e = c.is_command.ensures in
-    elim c.if-is_command.branch [ then-is_command w ↦ rw w.commands-is (counted-one _ h e w.if-is_command.true) | else-is_command w ↦ rw w.commands-is (counted-other _ h e w.if-is_command.false) ]
+pub returns : goal.returns
+returns c =
+    commands-counted c.args.s.now (count_from_yields_List c.filter.result _ c.count.ensures.ran (YieldsList-from_filter _ (is_command c.args.s.now) (YieldsList-from_range 0 _ (count c.args.s.now) c.filter.ensures.source (omega arith)) c.filter.ensures.closure (λ x r q k. search (rules, tests))))

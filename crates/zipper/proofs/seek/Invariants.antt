@@ -7,8 +7,8 @@ use Rattle.zipper.specs.Zipper.{whole_in, ZipOf}
 use Rattle.zipper.proofs.Search.{Seen}
 use Rattle.zipper.proofs.seek.Given as goal
 
-abbrev pub invariant-loop-entry : goal.invariant-loop-entry
-invariant-loop-entry l = ZipOf l.e l.frames l.left l.right l.depth (whole_in l.initial.e l.l l.r) × Seen l.e l.frames l.left l.right l.depth × (length l.e ≡ length l.initial.e) × (length l.frames ≡ length l.initial.frames)
+abbrev pub invariant-loop-p : goal.invariant-loop-p
+invariant-loop-p l = ZipOf l.e l.frames l.here.l l.here.r l.depth (whole_in l.initial.e l.fn.gap.l l.fn.gap.r) × Seen l.e l.frames l.here.l l.here.r l.depth × (length l.e ≡ length l.initial.e) × (length l.frames ≡ length l.initial.frames)
 
-abbrev pub decreases-loop-entry : goal.decreases-loop-entry
-decreases-loop-entry l = 3072 - l.right
+abbrev pub decreases-loop-p : goal.decreases-loop-p
+decreases-loop-p l = 3072 - l.here.r
