@@ -180,7 +180,7 @@ fn choose(rt: &HostRuntime, on: ScriptRecord) -> io::Result<()> {
     )
 }
 
-// The same on an abstraction, which has two records.
+// The same on an abstraction, which has two records, so that the array is another.
 fn choose_abstraction(rt: &HostRuntime) -> io::Result<()> {
     logged(
         rt,

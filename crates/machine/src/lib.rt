@@ -51,7 +51,7 @@ pub struct Body {
     pub commands: Commands,
 }
 
-// What stands where no function's body is found.
+// What stands where no function's body is found: the list has fixed memory, for the most functions that a script may have.
 pub const NO_BODY: Body = Body {
     at: 0,
     commands: Commands::None,
@@ -89,7 +89,7 @@ pub fn find_bodies(script: &[u8], bodies: &mut [Body]) -> usize
 {
     let mut at = 0;
     let mut f = 0;
-    // By whole terms and not by one: no `for` counts this.
+    // By whole terms and not by one: no `for` counts this, and f goes along with it.
     while script[8 * at] == 8 {
         let commands = commands(script, at + 1);
         bodies[f] = Body {

@@ -72,7 +72,7 @@ impl Refusal {
         }
     }
 
-    // Of a whole file, a buffer or the budget: the place is 0.
+    // Of a whole file, a buffer or the budget: document 01 has place 0 there.
     pub fn whole(reason: Reason) -> Refusal
         ensures { result ≡ refusal_at reason 0 }
     {

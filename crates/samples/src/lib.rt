@@ -201,7 +201,7 @@ mod tests {
     use super::*;
     use std::test::Fail;
 
-    // The script and the guideline of document 01's sample, as far as they show each form of record.
+    // A script and a guideline that show each form of record.
     #[test]
     fn bytes_of_records(rt: HostRuntime) -> Result<(), Fail> {
         let script = file_of(

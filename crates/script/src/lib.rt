@@ -7,7 +7,7 @@ ghost use Rattle.refusal.specs.Refusal.{accepted, due_if, refuse_if, verdict_of}
 ghost use Rattle.terms.specs.Record.{count};
 ghost use Rattle.script.specs.File.{is_definition, file_of};
 ghost use Rattle.script.specs.Check.{most_records, due1, due2, malformed, definition_count, definitions_in, undefined_name, is_command, is_parameter, command_of, placed_call, placed_emit, misplaced, commands_below, too_many, first_in, due7, script_verdict};
-ghost use Rattle.script.specs.Layout.{no_faults, misnumbered_at, after_definition, after_main, Told, Tells, Reached, whole_verdict};
+ghost use Rattle.script.specs.Layout.{misnumbered_at, after_definition, after_main, Told, Tells, Reached, whole_verdict};
 
 use refusal::{Reason, Refusal};
 use words::Number;
@@ -30,7 +30,7 @@ struct Script<'a> {
 
 // What numbers 4 to 6 go by in a whole file: how many definitions it has, the first of them that is misnumbered, the first variable
 // that is too large.
-#[derive(Clone, Copy)]
+#[derive(Clone, Copy, Default)]
 struct Faults {
     definitions: u32,
     misnumbered: Option<u32>,
@@ -170,17 +170,6 @@ fn first_misplaced(s: &[u8]) -> Option<usize>
 // ---- numbers 3, 4 and 5: one walk over the file
 
 impl Faults {
-    // Nothing is found yet.
-    fn none() -> Faults
-        ensures { result ≡ no_faults }
-    {
-        Faults {
-            definitions: 0,
-            misnumbered: None,
-            loose: None,
-        }
-    }
-
     // One definition more: its record, its number and its body's first loose variable.
     fn after(self, place: u32, number: u32, loose: Option<u32>) -> Faults
         requires { self.definitions + 1 < 2 ^ 32 }
@@ -227,7 +216,7 @@ impl Script<'_> {
     fn walk(self) -> Result<Faults, u32>
         ensures { Tells self.entry.bytes.now result }
     {
-        let mut found = Faults::none();
+        let mut found = Faults::default();
         let mut at = 0;
         // By whole terms and not by one: no `for` counts this.
         while is_definition(self.bytes, at) {

@@ -50,7 +50,7 @@ fn put(out: &mut [u8], pos: usize, bytes: &[u8]) -> Option<usize>
 // Copies the term at record `at` of s to the start of out, with the bytes u for each variable whose number is the count of the term's
 // abstractions open around it, and says where the copy ends, if out has room for it. The records from..i are passed and not yet written, `need`
 // terms are to come, and st[j] is what `need` will be where abstraction j ends. Of st only the room for 1,024 entries is asked: an array would
-// ask its very length.
+// ask its very length, a stack with its own length a type.
 pub fn substitute(s: &[u8], at: usize, u: &[u8], out: &mut [u8], st: &mut [u16]) -> Option<usize>
     requires lies { Lies s.now at (term_at s.now at) }
     requires stack_room { 1024 ≤ length st.old }
@@ -61,7 +61,7 @@ pub fn substitute(s: &[u8], at: usize, u: &[u8], out: &mut [u8], st: &mut [u16])
     let mut need: usize = 1;
     let mut depth: usize = 0;
     let mut pos: usize = 0;
-    // Both loops go on while terms are to come, which no `for` counts.
+    // Both loops end when no term is to come, and the inner one at a use too: a `for` over the records would need these tests as well.
     while 0 < need {
         // Up to the next use. Much of a run's time goes here, so the kinds are asked for by how often they stand in a script.
         while 0 < need {

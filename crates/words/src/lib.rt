@@ -45,6 +45,7 @@ pub trait Number: Copy {
         ensures { b.new ≡ put b.old i (bytes width (value self)) };
 }
 
+// The three impls differ in their type alone: std's `from_le_bytes` is no trait's, and no macro of ours may write an impl.
 impl Number for u16 {
     ghost width = { 2 };
 
@@ -87,8 +88,8 @@ impl Number for u64 {
     }
 }
 
-// Copies n bytes of u from a place on to a place of b. A loop, since most runs that are copied have a record or two: with `copy_from_slice`, which
-// calls memmove, the shortest plain runs take 11 % longer.
+// Copies n bytes of u from a place on to a place of b. A loop, since most runs that are copied are short: with `copy_from_slice`, which calls memmove, a
+// function that calls itself (w2) takes 1.09 times as long.
 #[tactic(auto, unfolding(crate::specs::Bytes::part, crate::specs::Put::put))]
 pub fn copy(b: &mut [u8], at: usize, u: &[u8], from: usize, n: usize)
     requires at_in_bounds { at + n ≤ length b.old }

@@ -106,6 +106,7 @@ impl<'a> Pair<'a> {
         match kind {
             5 => self.at_head(),
             9 => self.at_sum(),
+            // A branch is answered before, and nothing else has a frame. To prove that here, the struct would carry a third fact.
             _ => Sought::Stuck(self.redex.gap),
         }
     }
@@ -121,7 +122,8 @@ fn at_branch(kind: u8, redex: Redex) -> Sought
     }
 }
 
-// Copies the term after the gap down to its front and says where the gap is then: each record is copied as it is passed over.
+// Copies the term after the gap down to its front and says where the gap is then: each record is copied, as one word, as it is passed over. The loop is
+// that of `terms::pass_term` with this copy in each turn; one for both would lend passing a buffer that it does not write.
 fn leave(e: &mut [u8], gap: Gap) -> Gap
     requires l_le_r { gap.l ≤ gap.r }
     requires whole { Whole e.old gap.r }
@@ -161,7 +163,8 @@ fn leave(e: &mut [u8], gap: Gap) -> Gap
 }
 
 // Goes on from the focus to the next redex. A term that is no value is entered and a value left behind, so each turn takes records from the
-// right part. Up to an answer, by what the focus is: nothing counts the turns.
+// right part. Up to an answer, by what the focus is: nothing counts the turns. The frames are a slice with their count beside, since a stack with its
+// own length would be a type that asks more of a caller.
 pub fn seek(e: &mut [u8], frames: &mut [Entry], gap: Gap, count: usize) -> Sought
     requires { ZipOf e.old frames.old gap.l gap.r count (whole_in e.old gap.l gap.r) }
     ensures { SoughtIs (whole_in e.old gap.l gap.r) result e.new frames.new }
@@ -192,6 +195,7 @@ pub fn seek(e: &mut [u8], frames: &mut [Entry], gap: Gap, count: usize) -> Sough
                 frames[depth - 1].done = true;
             }
             5 | 9..=10 => {
+                // The record as one word: its other bytes are 0.
                 u64::from(kind).write(e, 8 * here.l);
                 frames[depth] = Entry {
                     place: here.l as u16,

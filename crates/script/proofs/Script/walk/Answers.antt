@@ -7,7 +7,7 @@ use Rattle.script.proofs.Walk.{reached-start, reached-more, body-stopped}
 use Rattle.script.proofs.Script.walk.Goals as goal
 
 pub loop-found-init : goal.loop-found-init
-loop-found-init c = rw c.none-found.ensures (reached-start _)
+loop-found-init c = let e = c.default-found.ensures in rw (e.0, e.1.0, e.1.1) (reached-start _)
 
 pub overflow_add-at : goal.overflow_add-at
 overflow_add-at c = omega (arith, definition-here c.args.self.bytes.now c.loop-found.at (sym c.is_definition.ensures ∙ c.loop-found-test.true))
