@@ -72,7 +72,7 @@ fn override_with(x: u32) -> Call {
 
 // ---- lines
 
-// The first n entries of a log, a comma after each. No log has more than 1,024.
+// The first n entries of a log, a comma after each where the listing has a line. No log has more than 1,024.
 #[derive(Clone, Copy)]
 struct Entries<'a> {
     log: &'a [u8; ENTRIES_BYTES],

@@ -83,6 +83,7 @@ const ENDLESS: [ScriptRecord; 11] = [
 // are abstractions around a constant, so many that there are 1,024 records in all.
 fn in_turn(alloc: Global, calls: &[u32; 6]) -> Result<Vec<ScriptRecord>, AllocError> {
     let mut script = Vec::new(alloc);
+    // As in `edges_guideline`: a function of `samples` for these lines would need a contract and edits of its own.
     for function in 0..128 {
         script.push(ScriptRecord::Definition(function))?;
         script.push(ScriptRecord::Variable(0))?;
@@ -127,7 +128,7 @@ fn records(expression: &[u8; 24576]) -> usize {
         .count()
 }
 
-// The time of the last of n entries, or 0 where there is none.
+// The time of the last of n entries, or 0 where there is none, as what is printed has it.
 fn last_time(log: &[u8; 16384], n: u32) -> u32 {
     match n {
         1..=1024 => history::entry_at(log, n as usize - 1).time,

@@ -1,5 +1,5 @@
 // One step of a run, on the bytes: where a script's bodies lie, and the redex replaced by the body that takes its argument, by a sum or by the
-// term that a branch chooses.
+// term that a branch chooses. Kinds of records stay bytes: `terms::arity_of` says why.
 #![tactic(auto)]
 
 ghost use Rattle.std.specs.Prelude.{◌≡◌, ◌+◌, ◌-◌, ◌*◌, ◌≤◌, ◌<◌, length, take, drop};
@@ -57,7 +57,8 @@ pub const NO_BODY: Body = Body {
     commands: Commands::None,
 };
 
-// The code that a run goes by: a script, and where the bodies of its functions begin.
+// The code that a run goes by: a script, and where the bodies of its functions begin. That the script is `Formed` is no field, since `fire` and `fits`
+// do not ask for it.
 #[derive(Clone, Copy)]
 pub struct Code<'a> {
     pub script: &'a [u8],
@@ -103,7 +104,8 @@ pub fn find_bodies(script: &[u8], bodies: &mut [Body]) -> usize
 }
 
 // Writes the body that the application at record p goes to to the start of out, with the argument put into it: the called function's body from
-// the script, or the abstraction's from the expression. Says where it ends, if out has room for it.
+// the script, or the abstraction's from the expression. Says where it ends, if out has room for it. Out and the stack are lent
+// one by one, as to `fire`.
 fn reduce(
     e: &[u8],
     p: usize,
@@ -189,7 +191,7 @@ fn choose(e: &mut [u8], r: usize) -> usize
 
 // Fires a redex: what is done of it ends where the gap begins, and the focus begins where the gap ends. Says where the next focus begins, if the
 // step leaves at most 1,024 records in all: a sum and a branch leave fewer than they have. Scratch and stack are lent, as a step allocates
-// nothing; as slices, since an array would ask more of a caller.
+// nothing; as slices, since an array would ask more of a caller. `Ready` speaks of the expression, which a step changes, so no struct can hold it.
 pub fn fire(
     e: &mut [u8],
     scratch: &mut [u8],

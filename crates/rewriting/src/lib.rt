@@ -1,4 +1,4 @@
-// Rewriting a script under a guideline.
+// Rewriting a script under a guideline. Kinds of a script's records stay bytes: `terms::arity_of` says why.
 #![tactic(auto)]
 
 ghost use Rattle.std.specs.Prelude.{◌≡◌, ◌+◌, ◌*◌, ◌<◌, ◌≤◌, length};

@@ -1,4 +1,4 @@
-// Checking a script: refusals 1 to 7.
+// Checking a script: refusals 1 to 7. Kinds of records stay bytes: `terms::arity_of` says why.
 #![tactic(auto)]
 
 ghost use Rattle.std.specs.Prelude.{false, ◌≡◌, ◌+◌, ◌^◌, ◌<◌, ◌≤◌, IfOk};
@@ -311,6 +311,7 @@ impl Script<'_> {
         requires { Told self.bytes.now found }
         ensures { verdict_of result ≡ whole_verdict purpose self.entry.bytes.now }
     {
+        // Here and for number 3 the place has 32 bits already; `Refusal::at` takes an index.
         if let Some(place) = found.misnumbered {
             return Err(Refusal {
                 reason: Reason::ScriptDefinition,

@@ -1,5 +1,5 @@
 // The copy of a term with a value in the place of a variable: one pass over the records, no recursion, and what stands between two uses of
-// the variable is moved in one run.
+// the variable is moved in one run. Kinds of records stay bytes: `terms::arity_of` says why.
 #![tactic(auto)]
 
 ghost use Rattle.std.specs.Prelude.{◌&&◌, ◌≡◌, ◌≤◌, eqb, length};

@@ -1,5 +1,6 @@
 // An expression in a buffer with a gap at the place of work: what stands before the focus at the front, the focus and what follows it at the
 // end. A step moves only what it changes, and the search for the next redex goes on from the last one.
+// Kinds of records stay bytes: `terms::arity_of` says why.
 #![tactic(auto)]
 
 ghost use Rattle.std.specs.Prelude.{◌≡◌, ◌+◌, ◌-◌, ◌<◌, ◌≤◌};
