@@ -1,14 +1,29 @@
--- The count of a file's commands. Assumes nothing.
+-- A search through a file, record by record, and the count of its commands. Assumes nothing.
 use mathlib.Core.Bool.{Bool, true, false, cond}
 use mathlib.Core.List.{List}
-use mathlib.Core.Path.{◌≡◌, refl, ap}
-use Prim.Native.Nat.{ℕ, zero, suc, ◌+◌, ◌≤◌}
+use mathlib.Core.Path.{◌≡◌, refl, sym, ap, ◌∙◌}
+use Prim.Native.Nat.{ℕ, zero, suc, ◌+◌, ◌-◌, ◌<◌, ◌≤◌}
 use native.Mathlib.Omega.{arith}
 use native.Mathlib.Numerals.{add-one}
 use lib.ListN.{length}
 use Rattle.std.specs.List.{filter, range_with_len}
 use Rattle.terms.specs.Record.{count}
+use Rattle.refusal.specs.First.{first_from, first_below, first_on}
 use Rattle.script.specs.Check.{is_command, commands_below}
+
+-- ---- a search
+
+module _ (p : ℕ → Bool) (n : ℕ) where
+  -- It has come to record i of n: what is found from there on is what is found at all.
+  pub record Searched (i : ℕ) : Type 0 where
+    pub within : i ≤ n
+    pub same : first_from p i (n - i) ≡ first_below p n
+
+  -- A record that the test passes by.
+  pub search-on : {b : Bool} (i : ℕ) → Searched i → i < n → b ≡ p i → b ≡ false → Searched (i + 1)
+  search-on i h l e o = record { within = omega arith; same = sym (first_on p n i l (sym e ∙ o)) ∙ h.same }
+
+-- ---- a count
 
 -- Those among the n records from a on, and those before.
 commands-from : (s : List ℕ) (a n j : ℕ) → a + n ≡ j → length (filter (is_command s) (range_with_len a n)) + commands_below s a ≡ commands_below s j

@@ -242,7 +242,7 @@ impl Script<'_> {
 }
 
 // How many definitions a file has, if it is whole: of any file, where `check_script` tells it of those that it accepts.
-pub fn definitions(s: &[u8]) -> Option<usize>
+pub fn whole_definitions(s: &[u8]) -> Option<usize>
     ensures { result ≡ definitions_in (file_of s.now) }
 {
     let mut passed = 0;
@@ -254,6 +254,13 @@ pub fn definitions(s: &[u8]) -> Option<usize>
     }
     let end = terms::pass_term(s, at)?;
     (end == s.len() / 8).then_some(passed)
+}
+
+// The same, and 0 for a file that is not whole: the count that a guideline's functions are checked against.
+pub fn definitions(s: &[u8]) -> usize
+    ensures { result ≡ definition_count (file_of s.now) }
+{
+    whole_definitions(s).unwrap_or(0)
 }
 
 // ---- number 7, and 4 to 7 of a whole file in their order

@@ -2,7 +2,7 @@ use mathlib.Core.Path.{sym, ◌∙◌}
 use native.Mathlib.Omega.{arith}
 use Rattle.terms.proofs.Pass.{pass-within}
 use Rattle.script.proofs.Walk.{passing-more, passing-stopped, passed-stopped, passed-end}
-use Rattle.script.proofs.definitions.Goals as goal
+use Rattle.script.proofs.whole_definitions.Goals as goal
 
 pub loop-at-smaller : goal.loop-at-smaller
 loop-at-smaller c = omega (arith, pass-within _ _ _ (sym c.pass_term.ensures ∙ c.in_ok-at.was))
