@@ -1,5 +1,5 @@
 pub mod Numbers
-pub mod Lines
+pub mod Written
 pub mod Rehearsed
 pub mod Printed
 pub mod Long

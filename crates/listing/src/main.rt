@@ -7,7 +7,8 @@ mod text;
 ghost use Rattle.std.specs.Prelude.{◌≤◌, length, IfOk, IfSome};
 
 use std::fs::File;
-use std::io::{Error, ErrorKind, Read, Result as IoResult};
+use std::io::{Error, ErrorKind, Read, Result as IoResult, Write};
+use text::TEXT_BYTES;
 
 // Reads until the buffer is full or the file has ended. It is then full, or the file has been seen to end. A read may give any part of what is
 // wanted, so no `for` counts the reads, and std's `read_to_end` has no buffer of a caller's.
@@ -60,7 +61,7 @@ fn read_file(rt: &HostRuntime, name: &str, buffer: &mut [u8]) -> Option<usize>
     }
 }
 
-// The buffers are one record longer than the longest files, so that a longer file is seen to be too long.
+// The buffers are one record longer than the longest files, so that a longer file is seen to be too long. The text is written at once.
 fn main(rt: HostRuntime) -> IoResult<()> {
     let mut script = [0u8; 8200];
     let mut guideline = [0u8; 4112];
@@ -70,5 +71,7 @@ fn main(rt: HostRuntime) -> IoResult<()> {
     let Some(g) = read_file(&rt, "show.gl", &mut guideline) else {
         return Ok(());
     };
-    print!(rt; "{}", text::list(&script[..s], &guideline[..g]))
+    let mut text = [0u8; TEXT_BYTES];
+    let n = text::list(&script[..s], &guideline[..g], &mut text);
+    rt.stdout().write_all(&text[..n])
 }
