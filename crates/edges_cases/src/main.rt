@@ -7,24 +7,18 @@
 // logged.
 #![tactic(auto)]
 
-use history::Entry;
+ghost use Rattle.std.specs.Prelude.{◌≤◌, length};
+
 use rewritten::ENTRIES_BYTES;
-use samples::{GuidelineRecord, Numbers, ScriptRecord};
+use samples::{BUFFERS, Buffers, GuidelineRecord, Numbers, ScriptRecord};
 use std::{fmt, io};
+use words::Number;
 
 const OVERRIDE: u32 = 0;
 
 const FIRE: u32 = 1;
 
 // ---- scripts
-
-// Override and fire, with variable 0 as body.
-const DEFINITIONS: [ScriptRecord; 4] = [
-    ScriptRecord::Definition(OVERRIDE),
-    ScriptRecord::Variable(0),
-    ScriptRecord::Definition(FIRE),
-    ScriptRecord::Variable(0),
-];
 
 // A call of a function on a constant.
 #[derive(Clone, Copy)]
@@ -72,7 +66,8 @@ fn override_with(x: u32) -> Call {
 
 // ---- lines
 
-// The first n entries of a log, a comma after each where the listing has a line. No log has more than 1,024.
+// The first n entries of a log, a comma after each where the listing has a line. No log has more than 1,024. An entry's words are read here and
+// not by `history`, so that what is printed tests how entries are written.
 #[derive(Clone, Copy)]
 struct Entries<'a> {
     log: &'a [u8; ENTRIES_BYTES],
@@ -83,37 +78,43 @@ impl fmt::Display for Entries<'_> {
     fn fmt<W: fmt::Write>(&self, f: &mut fmt::Formatter<W>) -> fmt::Result {
         let Entries { log, n } = *self;
         for i in 0..n.min(1024) as usize {
-            let Entry {
-                time,
-                function,
-                kind,
-                number,
-            } = history::entry_at(log, i);
+            let at = 16 * i;
+            let (time, function) = (u32::read(log, at), u32::read(log, at + 4));
+            let (kind, number) = (u32::read(log, at + 8), u32::read(log, at + 12));
             write!(f, "{time} {function} {kind} {number}, ")?;
         }
         Ok(())
     }
 }
 
-// The line of a case: a main term after the definitions is rehearsed.
+// The line of a case: a main term is rehearsed after the definitions of override and fire, with variable 0 as body. These are six parameters, since
+// of a struct that borrows the main term and the rules the check makes no proof.
 fn case(
     rt: &HostRuntime,
     name: &str,
     main: &[ScriptRecord],
     rules: &[GuidelineRecord],
     budget: u32,
-) -> io::Result<()> {
-    let mut records = Vec::from_array(rt.alloc(), DEFINITIONS)?;
-    records.extend_from_slice(main)?;
-    let script = samples::file_of(rt.alloc(), &records)?;
-    let guideline = samples::file_of(rt.alloc(), rules)?;
-    let run = samples::rehearse(&script, &guideline, budget);
-    match run.answer {
+    buffers: &mut Buffers,
+) -> io::Result<()>
+    requires main_bound { length main.now ≤ 13 }
+    requires rules_bound { length rules.now ≤ 10 }
+{
+    let mut records = [ScriptRecord::Variable(0); 17];
+    records[0] = ScriptRecord::Definition(OVERRIDE);
+    records[2] = ScriptRecord::Definition(FIRE);
+    let end = 4 + main.len();
+    records[4..end].copy_from_slice(main);
+    let mut script = [0; 136];
+    let script = samples::file_of(&records[..end], &mut script);
+    let mut guideline = [0; 160];
+    let guideline = samples::file_of(rules, &mut guideline);
+    match samples::rehearse(script, guideline, budget, buffers) {
         Err(refusal) => println!(rt; "({name}) {}", Numbers(Err(refusal))),
         Ok(ran) => println!(rt;
             "({name}) {}{} {}",
             Entries {
-                log: &run.log,
+                log: &buffers.log,
                 n: ran.counts.log,
             },
             u32::from(ran.outcome),
@@ -131,25 +132,39 @@ const AFTER_OVERRIDE: [GuidelineRecord; 2] = [
 ];
 
 // (d) and (e): a main term without a call.
-fn no_calls(rt: &HostRuntime) -> io::Result<()> {
-    case(rt, "d", &[ScriptRecord::Constant(1)], &AFTER_OVERRIDE, 0)?;
+fn no_calls(rt: &HostRuntime, buffers: &mut Buffers) -> io::Result<()> {
+    case(
+        rt,
+        "d",
+        &[ScriptRecord::Constant(1)],
+        &AFTER_OVERRIDE,
+        0,
+        buffers,
+    )?;
     let stuck = [
         ScriptRecord::Application,
         ScriptRecord::Constant(7),
         ScriptRecord::Constant(7),
     ];
-    case(rt, "e", &stuck, &AFTER_OVERRIDE, 1000)
+    case(rt, "e", &stuck, &AFTER_OVERRIDE, 1000, buffers)
 }
 
 // (g): fire on an abstraction with label 9.
-fn label(rt: &HostRuntime) -> io::Result<()> {
+fn label(rt: &HostRuntime, buffers: &mut Buffers) -> io::Result<()> {
     let main = [
         ScriptRecord::Application,
         ScriptRecord::Function(FIRE),
         ScriptRecord::Abstraction(9),
         ScriptRecord::Variable(0),
     ];
-    case(rt, "g", &main, &[GuidelineRecord::Logged(FIRE)], 1000)
+    case(
+        rt,
+        "g",
+        &main,
+        &[GuidelineRecord::Logged(FIRE)],
+        1000,
+        buffers,
+    )
 }
 
 fn head(first: u8, second: u8) -> GuidelineRecord {
@@ -169,7 +184,7 @@ fn atom(predicate: u8, first: u8, second: u8) -> GuidelineRecord {
 }
 
 // (h): p0(1, 2), p0(2, 3); p1(x, y) where p0(x, y); p1(x, z) where p0(x, y) and p1(y, z). Fire is logged where p1(x_1, x_0).
-fn closure(rt: &HostRuntime, x: u32, y: u32) -> io::Result<()> {
+fn closure(rt: &HostRuntime, x: u32, y: u32, buffers: &mut Buffers) -> io::Result<()> {
     let rules = [
         GuidelineRecord::Fact(1, 2),
         GuidelineRecord::Fact(2, 3),
@@ -186,11 +201,18 @@ fn closure(rt: &HostRuntime, x: u32, y: u32) -> io::Result<()> {
             j: 0,
         },
     ];
-    case(rt, "h", &in_turn(override_with(x), fire(y)), &rules, 1000)
+    case(
+        rt,
+        "h",
+        &in_turn(override_with(x), fire(y)),
+        &rules,
+        1000,
+        buffers,
+    )
 }
 
 // (i): p0(1, 1). Fire is logged where p0(x_0, x_0), and called on 7, which no fact has, and then on 1.
-fn one_fact(rt: &HostRuntime) -> io::Result<()> {
+fn one_fact(rt: &HostRuntime, buffers: &mut Buffers) -> io::Result<()> {
     let rules = [
         GuidelineRecord::Fact(1, 1),
         GuidelineRecord::Logged(FIRE),
@@ -200,11 +222,11 @@ fn one_fact(rt: &HostRuntime) -> io::Result<()> {
             j: 0,
         },
     ];
-    case(rt, "i", &in_turn(fire(7), fire(1)), &rules, 1000)
+    case(rt, "i", &in_turn(fire(7), fire(1)), &rules, 1000, buffers)
 }
 
 // (j): fire is logged with two triggers 0 where t_1 < t_2. The second run has a further override before.
-fn two_triggers(rt: &HostRuntime) -> io::Result<()> {
+fn two_triggers(rt: &HostRuntime, buffers: &mut Buffers) -> io::Result<()> {
     let rules = [
         GuidelineRecord::Logged(FIRE),
         GuidelineRecord::Trigger(OVERRIDE),
@@ -212,49 +234,77 @@ fn two_triggers(rt: &HostRuntime) -> io::Result<()> {
         GuidelineRecord::Earlier { i: 1, j: 2 },
     ];
     let main = in_turn(override_with(3), fire(7));
-    case(rt, "j", &main, &rules, 1000)?;
-    let mut main = Vec::new(rt.alloc());
-    main.push(ScriptRecord::Application)?;
-    main.push(ScriptRecord::Abstraction(0))?;
-    main.extend_from_slice(&in_turn(override_with(4), fire(7)))?;
-    main.extend_from_slice(&override_with(3).records())?;
-    case(rt, "j", &main, &rules, 1000)
+    case(rt, "j", &main, &rules, 1000, buffers)?;
+    let [a, b, c, d, e, f, g, h] = in_turn(override_with(4), fire(7));
+    let [k, l, m] = override_with(3).records();
+    let main = [
+        ScriptRecord::Application,
+        ScriptRecord::Abstraction(0),
+        a,
+        b,
+        c,
+        d,
+        e,
+        f,
+        g,
+        h,
+        k,
+        l,
+        m,
+    ];
+    case(rt, "j", &main, &rules, 1000, buffers)
 }
 
-fn main(rt: HostRuntime) -> io::Result<()> {
+fn edges(rt: &HostRuntime) -> io::Result<()> {
+    let mut buffers = BUFFERS;
     case(
-        &rt,
+        rt,
         "a",
         &in_turn(override_with(3), fire(7)),
         &AFTER_OVERRIDE,
         1000,
+        &mut buffers,
     )?;
     // The budget cuts off the call of fire.
     case(
-        &rt,
+        rt,
         "b",
         &in_turn(override_with(3), fire(7)),
         &AFTER_OVERRIDE,
         2,
+        &mut buffers,
     )?;
     // Override and fire exchanged.
     case(
-        &rt,
+        rt,
         "c",
         &in_turn(fire(3), override_with(7)),
         &AFTER_OVERRIDE,
         1000,
+        &mut buffers,
     )?;
-    no_calls(&rt)?;
+    no_calls(rt, &mut buffers)?;
     // Fire its own trigger.
     let after_fire = [
         GuidelineRecord::Logged(FIRE),
         GuidelineRecord::Trigger(FIRE),
     ];
-    case(&rt, "f", &in_turn(fire(5), fire(7)), &after_fire, 1000)?;
-    label(&rt)?;
-    closure(&rt, 1, 3)?;
-    closure(&rt, 3, 1)?;
-    one_fact(&rt)?;
-    two_triggers(&rt)
+    case(
+        rt,
+        "f",
+        &in_turn(fire(5), fire(7)),
+        &after_fire,
+        1000,
+        &mut buffers,
+    )?;
+    label(rt, &mut buffers)?;
+    closure(rt, 1, 3, &mut buffers)?;
+    closure(rt, 3, 1, &mut buffers)?;
+    one_fact(rt, &mut buffers)?;
+    two_triggers(rt, &mut buffers)
+}
+
+// What cannot be written has nobody to be told to, and the gate compares what is printed: so that error is dropped.
+fn main(rt: HostRuntime) {
+    let _ = edges(&rt);
 }

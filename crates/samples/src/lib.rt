@@ -1,16 +1,15 @@
-// Scripts and guidelines put together record by record, and calls on buffers of their own: for the programs that execute the edges of
-// document 01. Nothing here reads the engine's own encoding, so that what these programs print tests it too.
+// Scripts and guidelines put together record by record, and calls on buffers that a program lends: for the programs that execute the edges of
+// document 01. All of it lies in fixed memory. Nothing here reads the engine's own encoding, so that what these programs print tests it too.
 #![tactic(auto)]
 
 mod calls;
 
-ghost use Rattle.std.specs.Prelude.{◌≡◌, ℕ, List, ◌++◌, ◌*◌, ◌≤◌, IfOk, flat_map, length, vec_len};
+ghost use Rattle.std.specs.Prelude.{◌≡◌, ℕ, List, ◌++◌, ◌*◌, ◌≤◌, flat_map, length};
 ghost use Rattle.samples.specs.Records.{script_kind, script_spare, script_number, script_bytes, guideline_head, first_number, second_number, guideline_bytes};
 
-pub use calls::{Numbers, Plain, Rehearsal, rehearse, run_plain};
-use std::alloc::{AllocError, Global};
+pub use calls::{BUFFERS, Buffers, Numbers, rehearse, run_plain};
 
-// A record of N bytes.
+// A record of N bytes. A file is the bytes of records in a row: what `file_of` makes of a list, or an array of them as one slice.
 pub trait Record<const N: usize>: Copy {
     ghost bytes_of: { Self → List ℕ };
 
@@ -18,20 +17,18 @@ pub trait Record<const N: usize>: Copy {
         ensures { result ≡ bytes_of self };
 }
 
-// The file of these records.
-pub fn file_of<const N: usize, T: Record<N>>(
-    alloc: Global,
-    records: &[T],
-) -> Result<Vec<u8>, AllocError>
-    requires { N ≤ 16 }
-    ensures items { IfOk result (λ file. file.items ≡ flat_map T.bytes_of records.now) }
-    ensures len { IfOk result (λ file. vec_len file ≡ N * length records.now) }
+// The file of these records, in the front of a buffer that has room for them.
+pub fn file_of<'a, const N: usize, T: Record<N>>(records: &[T], buffer: &'a mut [u8]) -> &'a [u8]
+    requires { N * length records.now ≤ length buffer.old }
+    ensures items { result.now ≡ flat_map T.bytes_of records.now }
+    ensures len { length result.now ≡ N * length records.now }
 {
-    let mut file = Vec::new(alloc);
+    let mut end = 0;
     for record in records {
-        file.extend_from_slice(&record.bytes())?;
+        buffer[end..end + N].copy_from_slice(&record.bytes());
+        end += N;
     }
-    Ok(file)
+    &buffer[..end]
 }
 
 // A script's record. A variable, a function name, a constant and so on have a number; where it is always 0, none stands here.
@@ -204,20 +201,21 @@ mod tests {
     // A script and a guideline that show each form of record.
     #[test]
     fn bytes_of_records(rt: HostRuntime) -> Result<(), Fail> {
+        let mut buffer = [0; 16];
         let script = file_of(
-            rt.alloc(),
             &[
                 ScriptRecord::Abstraction(9),
                 ScriptRecord::Constant(0x04030201),
             ],
-        )?;
+            &mut buffer,
+        );
         assert_eq!(rt;
-            script.as_slice(),
+            script,
             [4, 0, 0, 0, 9, 0, 0, 0, 3, 0, 0, 0, 1, 2, 3, 4].as_slice()
         );
-        let guideline = file_of(rt.alloc(), &[GuidelineRecord::Fact(1, 0x100)])?;
+        let guideline = file_of(&[GuidelineRecord::Fact(1, 0x100)], &mut buffer);
         assert_eq!(rt;
-            guideline.as_slice(),
+            guideline,
             [1, 0, 3, 3, 1, 0, 0, 0, 0, 1, 0, 0, 0, 0, 0, 0].as_slice()
         );
         Ok(())
