@@ -282,13 +282,13 @@ module _ {e s : List ℕ} {bodies : List Body} {p l r : ℕ} {T : Term} (h : Rea
       pub fire-room : (q : ℕ) → x ≡ Some q → q ≤ length o
       fire-room q d = (written-done (encode (result here)) o x o' (written here) q d).1
 
-      -- Written and copied into place.
-      pub fire-made : length o ≤ room → (q : ℕ) → x ≡ Some q → (e' : List ℕ) → e' ≡ put e (8 * end - q) (part o' 0 q)
+      -- Written and copied into place, from where the same bytes stand.
+      pub fire-made : length o ≤ room → (q : ℕ) → x ≡ Some q → (b : List ℕ) (i : ℕ) → part b i q ≡ part o' 0 q → (e' : List ℕ) → e' ≡ put e (8 * end - q) (part b i q)
           → FiredIs T (step (code_in s) T) p l r (Some (end - q / 8)) e e'
-      fire-made l q d e' m =
+      fire-made l q d b i same e' m =
           landed-fired h (λ fs n k.
           let a = applied-at k five in
-          ((red a).event, record { expr = plug a.frames (result a); steps = goes a; zip = zipped a q d l e' m }))
+          ((red a).event, record { expr = plug a.frames (result a); steps = goes a; zip = zipped a q d l e' (m ∙ ap (put e (8 * end - q)) same) }))
 
       -- No room for it: the next expression is large.
       pub fire-over : room ≤ length o → x ≡ None → FiredIs T (step (code_in s) T) p l r None e e

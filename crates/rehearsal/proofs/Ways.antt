@@ -53,17 +53,18 @@ module _ (s g : List ℕ) (n : ℕ) (o e c h l t : List ℕ) where
   unfolding answered
   refused r q = (rw (← q, ne_eqb (refused_as r).number 0 (refused-some r)), tt)
 
-  module _ {b : Bool} (is : b ≡ short) where
+  -- What is tested of the call is m, and that is the budget.
+  module _ {b : Bool} (is : b ≡ short) {m : ℕ} (same : m ≡ n) where
     -- The budget is too large, or a buffer is too short.
-    pub refused-call : (r : Refusal) → refused_as r ≡ run_due n b accepted → Done (Refused (refused_as r)) o e c h l t
+    pub refused-call : (r : Refusal) → refused_as r ≡ run_due m b accepted → Done (Refused (refused_as r)) o e c h l t
     unfolding rehearsal_due
-    refused-call r q = refused r (rw (← is) (call-refused n b _ r q))
+    refused-call r q = refused r (rw (← is, ← same) (call-refused m b _ r q))
 
-    module _ (passed : accepted ≡ run_due n b accepted) where
+    module _ (passed : accepted ≡ run_due m b accepted) where
       -- Else rewriting decides.
       rewriting-due : rewriting_verdict s g (length o) ≡ rehearsal_due s g n short (length o)
       unfolding rehearsal_due
-      rewriting-due = rw (← is) (call-rest n b passed _)
+      rewriting-due = rw (← is, ← same) (call-rest m b passed _)
 
       -- It refuses, …
       pub refused-rewriting : {o' : List ℕ} (r : Refusal) → rewrites.after o' (refused_by (refused_as r)) ≡ rewriting s g o → Done (Refused (refused_as r)) o' e c h l t

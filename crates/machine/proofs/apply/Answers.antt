@@ -2,8 +2,10 @@
 use mathlib.Core.Path.{refl}
 use native.Mathlib.Omega.{arith}
 use Rattle.std.specs.Prelude.{Some, None}
+use borrow.Author.Rules.{rules}
 use lib.ListN.{length-take}
-use Rattle.machine.proofs.Contract.{ready-source, ready-around, fire-made, fire-over}
+use Rattle.words.specs.Bytes.{part_left}
+use Rattle.machine.proofs.Contract.{ready-source, ready-around, fire-room, fire-made, fire-over}
 use Rattle.machine.proofs.apply.Goals as goal
 
 pub room-end-requires : goal.room-end-requires
@@ -18,4 +20,6 @@ returns-in_err-q c =
 
 pub returns : goal.returns
 returns c =
-    fire-made c.requires.ready c.requires.p_value c.args.code.now.positions _ c.room-end.ensures.end-is _ (Some _) _ c.in_ok-q.ensures (omega (arith, length-take c.room-end.result.1 c.args.scratch.now)) _ refl _ c.copy.ensures
+    let fits = fire-room c.requires.ready c.requires.p_value c.args.code.now.positions _ c.room-end.ensures.end-is _ (Some _) _ c.in_ok-q.ensures _ refl in
+    fire-made c.requires.ready c.requires.p_value c.args.code.now.positions _ c.room-end.ensures.end-is _ (Some _) _ c.in_ok-q.ensures (omega (arith, length-take c.room-end.result.1 c.args.scratch.now)) _ refl _ _
+    (search (rules, part_left)) _ c.copy.ensures

@@ -1,4 +1,5 @@
 -- `derive` meets its contract.
+use borrow.Author.Rules.{rules}
 use mathlib.Core.Path.{refl, sym}
 use native.Mathlib.Omega.{arith}
 use Rattle.refusal.proofs.Handed.{handed-on}
@@ -12,13 +13,13 @@ returns-then-table-lt-TABLE_BYTES c = rw c.whole.ensures (derive-short _ _ (omeg
 pub returns-in_err-check_file : goal.returns-in_err-check_file
 returns-in_err-check_file c =
     let r = c.in_err-check_file.field-0.0 in
-    rw (handed-on c.from_residual.result r c.from_residual.ensures.1) (derive-refused _ _ (omega arith) (verdict-err c.in_err-check_file.was c.check_file.ensures) (refused-some r))
+    rw (handed-on c.from_residual.result r c.from_residual.ensures.1) (derive-refused _ _ (omega arith) (verdict-err c.in_err-check_file.was (search rules)) (refused-some r))
 
 pub table_of-requires-clause-accepts : goal.table_of-requires-clause-accepts
-table_of-requires-clause-accepts c = sym (verdict-ok c.in_ok-check_file.was c.check_file.ensures)
+table_of-requires-clause-accepts c = sym (verdict-ok c.in_ok-check_file.was (search rules))
 
 pub table_of-requires-clause-table_fits : goal.table_of-requires-clause-table_fits
 table_of-requires-clause-table_fits c = omega arith
 
 pub returns : goal.returns
-returns c = derive-accepted _ _ (omega arith) (verdict-ok c.in_ok-check_file.was c.check_file.ensures) refl c.table_of.ensures.table_after
+returns c = derive-accepted _ _ (omega arith) (verdict-ok c.in_ok-check_file.was (search rules)) refl c.table_of.ensures.table_after

@@ -10,13 +10,13 @@ use Rattle.rehearsal.proofs.rehearse.Goals as goal
 pub returns-in_err-check_call : goal.returns-in_err-check_call
 returns-in_err-check_call c =
     let e = handed-on c.from_residual.result c.in_err-check_call.field-0.0 c.from_residual.ensures.1 in
-    let d = refused-call _ _ _ _ _ _ _ _ _ c.too_short-short.ensures c.in_err-check_call.field-0.0 c.in_err-check_call.ensures in
+    let d = refused-call _ _ c.args.budget _ _ _ _ _ _ c.too_short-short.ensures (omega arith) c.in_err-check_call.field-0.0 c.in_err-check_call.ensures in
     record { table_after = rw e d.0; claimed = rw e d.1 }
 
 pub returns-in_err-records : goal.returns-in_err-records
 returns-in_err-records c =
     let e = handed-on c.from_residual-in_err-records.result c.in_err-records.field-0.0 c.from_residual-in_err-records.ensures.1 in
-    let d = refused-rewriting _ _ _ c.args.out.now _ _ _ _ _ c.too_short-short.ensures c.in_ok-check_call.ensures c.in_err-records.field-0.0 c.in_err-records.ensures in
+    let d = refused-rewriting _ _ c.args.budget c.args.out.now _ _ _ _ _ c.too_short-short.ensures (omega arith) c.in_ok-check_call.ensures c.in_err-records.field-0.0 c.in_err-records.ensures in
     record { table_after = rw e d.0; claimed = rw e d.1 }
 
 pub slice_bounds-rewritten-end : goal.slice_bounds-rewritten-end
@@ -30,6 +30,6 @@ slice_bounds-rewritten-end-2 c =
 
 pub returns : goal.returns
 returns c =
-    let d = ran _ _ _ c.args.out.now _ _ _ _ _ c.too_short-short.ensures c.in_ok-check_call.ensures c.in_ok-records.ensures refl
+    let d = ran _ _ c.args.budget c.args.out.now _ _ _ _ _ c.too_short-short.ensures (omega arith) c.in_ok-check_call.ensures c.in_ok-records.ensures refl
     (λ i. omega (arith, c.type_inv.script i)) (λ i. omega (arith, c.type_inv.guideline i)) c.rewritten.ensures in
     record { table_after = d.0; claimed = d.1 }
