@@ -255,34 +255,19 @@ fn two_triggers(rt: &HostRuntime, buffers: &mut Buffers) -> io::Result<()> {
     case(rt, "j", &main, &rules, 1000, buffers)
 }
 
+// (a), (b) and (c): override and fire in this order, with the budget cut off, and in the other order.
+fn orders(rt: &HostRuntime, buffers: &mut Buffers) -> io::Result<()> {
+    let main = in_turn(override_with(3), fire(7));
+    case(rt, "a", &main, &AFTER_OVERRIDE, 1000, buffers)?;
+    // The budget cuts off the call of fire.
+    case(rt, "b", &main, &AFTER_OVERRIDE, 2, buffers)?;
+    let main = in_turn(fire(3), override_with(7));
+    case(rt, "c", &main, &AFTER_OVERRIDE, 1000, buffers)
+}
+
 fn edges(rt: &HostRuntime) -> io::Result<()> {
     let mut buffers = BUFFERS;
-    case(
-        rt,
-        "a",
-        &in_turn(override_with(3), fire(7)),
-        &AFTER_OVERRIDE,
-        1000,
-        &mut buffers,
-    )?;
-    // The budget cuts off the call of fire.
-    case(
-        rt,
-        "b",
-        &in_turn(override_with(3), fire(7)),
-        &AFTER_OVERRIDE,
-        2,
-        &mut buffers,
-    )?;
-    // Override and fire exchanged.
-    case(
-        rt,
-        "c",
-        &in_turn(fire(3), override_with(7)),
-        &AFTER_OVERRIDE,
-        1000,
-        &mut buffers,
-    )?;
+    orders(rt, &mut buffers)?;
     no_calls(rt, &mut buffers)?;
     // Fire its own trigger.
     let after_fire = [
