@@ -106,10 +106,10 @@ fn case(
     let end = 4 + main.len();
     records[4..end].copy_from_slice(main);
     let mut script = [0; 136];
-    let script = samples::file_of(&records[..end], &mut script);
+    let script = samples::file_into(&records[..end], &mut script);
     let mut guideline = [0; 160];
-    let guideline = samples::file_of(rules, &mut guideline);
-    match samples::rehearse(script, guideline, budget, buffers) {
+    let guideline = samples::file_into(rules, &mut guideline);
+    match samples::rehearse_into(script, guideline, budget, buffers) {
         Err(refusal) => println!(rt; "({name}) {}", Numbers(Err(refusal))),
         Ok(ran) => println!(rt;
             "({name}) {}{} {}",

@@ -77,7 +77,7 @@ fn case(rt: &HostRuntime, rules: &[GuidelineRecord], first: usize, second: usize
     requires second_bound { second < 8192 }
 {
     let mut guideline = [0; 112];
-    let guideline = samples::file_of(rules, &mut guideline);
+    let guideline = samples::file_into(rules, &mut guideline);
     let mut table = [255u8; 8192];
     let derived = records::derive(guideline, &mut table);
     let count = table.iter().filter(|byte| **byte != 0).count();

@@ -130,7 +130,7 @@ fn run_plain(
     budget: u32,
     buffers: &mut Buffers,
 ) -> io::Result<()> {
-    match samples::run_plain(script, budget, buffers) {
+    match samples::run_plain_into(script, budget, buffers) {
         Err(refusal) => println!(rt; "plain {}", Numbers(Err(refusal))),
         Ok(ran) => {
             println!(rt;
@@ -217,7 +217,7 @@ fn sizes(rt: &HostRuntime, buffers: &mut Buffers) -> io::Result<()> {
 // The 1,024th call of function 0 is step 2047, and step 2049 would be the 1,025th.
 fn calls(rt: &HostRuntime, buffers: &mut Buffers) -> io::Result<()> {
     let mut script = [0; 88];
-    let script = samples::file_of(&ENDLESS, &mut script);
+    let script = samples::file_into(&ENDLESS, &mut script);
     let logged = GuidelineRecord::Logged(0).bytes();
     edge(rt, script, &logged, 2048, buffers)?;
     edge(rt, script, &logged, 2049, buffers)?;
@@ -227,7 +227,7 @@ fn calls(rt: &HostRuntime, buffers: &mut Buffers) -> io::Result<()> {
 // Budgets of 1,000,000 and 1,000,001. No call is noted.
 fn budgets(rt: &HostRuntime, buffers: &mut Buffers) -> io::Result<()> {
     let mut script = [0; 88];
-    let script = samples::file_of(&ENDLESS, &mut script);
+    let script = samples::file_into(&ENDLESS, &mut script);
     edge(rt, script, b"", 1000000, buffers)?;
     edge(rt, script, b"", 1000001, buffers)
 }

@@ -35,7 +35,7 @@ fn run_plain(
     budget: u32,
     buffers: &mut Buffers,
 ) -> io::Result<()> {
-    match samples::run_plain(script, budget, buffers) {
+    match samples::run_plain_into(script, budget, buffers) {
         Err(refusal) => println!(rt; "plain {}", Numbers(Err(refusal))),
         Ok(ran) => println!(rt;
             "plain {} {} {} {}",
@@ -54,7 +54,7 @@ fn rehearse(
     budget: u32,
     buffers: &mut Buffers,
 ) -> io::Result<()> {
-    match samples::rehearse(script, guideline, budget, buffers) {
+    match samples::rehearse_into(script, guideline, budget, buffers) {
         Err(refusal) => println!(rt; "rewritten {}", Numbers(Err(refusal))),
         Ok(ran) => println!(rt;
             "rewritten {} {} {} {}",
@@ -87,7 +87,7 @@ fn edge(
     requires { length records.now ≤ 4 }
 {
     let mut script = [0; 32];
-    let script = samples::file_of(records, &mut script);
+    let script = samples::file_into(records, &mut script);
     run(rt, script, b"", budget, buffers)
 }
 
@@ -100,7 +100,7 @@ fn logged(rt: &HostRuntime, main: &[ScriptRecord], buffers: &mut Buffers) -> io:
     let end = 2 + main.len();
     records[2..end].copy_from_slice(main);
     let mut script = [0; 72];
-    let script = samples::file_of(&records[..end], &mut script);
+    let script = samples::file_into(&records[..end], &mut script);
     let guideline = GuidelineRecord::Logged(0).bytes();
     run(rt, script, &guideline, 1000, buffers)
 }

@@ -51,7 +51,11 @@ impl Buffers {
     }
 }
 
-pub fn run_plain(script: &[u8], budget: u32, buffers: &mut Buffers) -> Result<plain::Ran, Refusal>
+pub fn run_plain_into(
+    script: &[u8],
+    budget: u32,
+    buffers: &mut Buffers,
+) -> Result<plain::Ran, Refusal>
     ensures answer { plain_run.answer_of result ≡ (plain_after script.now budget).answer }
     ensures expression { buffers.new.expression ≡ (plain_after script.now budget).expression }
 {
@@ -62,7 +66,7 @@ pub fn run_plain(script: &[u8], budget: u32, buffers: &mut Buffers) -> Result<pl
 }
 
 // Demand 3 holds of what a rehearsal answers and leaves.
-pub fn rehearse(
+pub fn rehearse_into(
     script: &[u8],
     guideline: &[u8],
     budget: u32,
@@ -88,4 +92,48 @@ pub fn rehearse(
         &mut buffers.log,
         &mut table,
     )
+}
+
+// What a plain run answers and leaves.
+#[derive(Drop)]
+pub struct Plain {
+    pub answer: Result<plain::Ran, Refusal>,
+    pub expression: [u8; 24576],
+}
+
+pub fn run_plain(script: &[u8], budget: u32) -> Plain
+    ensures answer { plain_run.answer_of result.answer ≡ (plain_after script.now budget).answer }
+    ensures expression { result.expression ≡ (plain_after script.now budget).expression }
+{
+    let mut buffers = BUFFERS;
+    let answer = run_plain_into(script, budget, &mut buffers);
+    Plain {
+        answer,
+        expression: buffers.expression,
+    }
+}
+
+// What a rehearsal answers and leaves. Demand 3 holds of it.
+#[derive(Drop)]
+pub struct Rehearsal {
+    pub answer: Result<rewritten::Ran, Refusal>,
+    pub expression: [u8; 24576],
+    pub history: [u8; 16384],
+    pub log: [u8; 16384],
+}
+
+pub fn rehearse(script: &[u8], guideline: &[u8], budget: u32) -> Rehearsal
+    ensures answer { rewritten_run.answer_of result.answer ≡ (rehearsed script.now guideline.now budget).run.answer }
+    ensures history { result.history ≡ (rehearsed script.now guideline.now budget).run.history }
+    ensures log { result.log ≡ (rehearsed script.now guideline.now budget).run.log }
+    ensures claimed { Claimed script.now guideline.now budget (rewritten_run.answer_of result.answer) result.expression result.log }
+{
+    let mut buffers = BUFFERS;
+    let answer = rehearse_into(script, guideline, budget, &mut buffers);
+    Rehearsal {
+        answer,
+        expression: buffers.expression,
+        history: buffers.history,
+        log: buffers.log,
+    }
 }

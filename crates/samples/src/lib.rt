@@ -1,15 +1,19 @@
-// Scripts and guidelines put together record by record, and calls on buffers that a program lends: for the programs that execute the edges of
-// document 01. All of it lies in fixed memory. Nothing here reads the engine's own encoding, so that what these programs print tests it too.
+// Scripts and guidelines put together record by record, and calls of the engine: for the programs that execute the edges of document 01. These
+// lend what is filled, and so stay in fixed memory: `file_into`, `run_plain_into`, `rehearse_into`. What `file_of`, `run_plain` and `rehearse` fill
+// they hand on. Nothing here reads the engine's own encoding, so that what these programs print tests it too.
 #![tactic(auto)]
 
 mod calls;
 
-ghost use Rattle.std.specs.Prelude.{◌≡◌, ℕ, List, ◌++◌, ◌*◌, ◌≤◌, flat_map, length};
+ghost use Rattle.std.specs.Prelude.{◌≡◌, ℕ, List, ◌++◌, ◌*◌, ◌≤◌, IfOk, flat_map, length, vec_len};
 ghost use Rattle.samples.specs.Records.{script_kind, script_spare, script_number, script_bytes, guideline_head, first_number, second_number, guideline_bytes};
 
-pub use calls::{BUFFERS, Buffers, Numbers, rehearse, run_plain};
+pub use calls::{
+    BUFFERS, Buffers, Numbers, Plain, Rehearsal, rehearse, rehearse_into, run_plain, run_plain_into,
+};
+use std::alloc::{AllocError, Global};
 
-// A record of N bytes. A file is the bytes of records in a row: what `file_of` makes of a list, or an array of them as one slice.
+// A record of N bytes. A file is the bytes of records in a row: what `file_of` and `file_into` make of a list, or an array of them as one slice.
 pub trait Record<const N: usize>: Copy {
     ghost bytes_of: { Self → List ℕ };
 
@@ -17,8 +21,24 @@ pub trait Record<const N: usize>: Copy {
         ensures { result ≡ bytes_of self };
 }
 
-// The file of these records, in the front of a buffer that has room for them.
-pub fn file_of<'a, const N: usize, T: Record<N>>(records: &[T], buffer: &'a mut [u8]) -> &'a [u8]
+// The file of these records, in memory of its own.
+pub fn file_of<const N: usize, T: Record<N>>(
+    alloc: Global,
+    records: &[T],
+) -> Result<Vec<u8>, AllocError>
+    requires { N ≤ 16 }
+    ensures items { IfOk result (λ file. file.items ≡ flat_map T.bytes_of records.now) }
+    ensures len { IfOk result (λ file. vec_len file ≡ N * length records.now) }
+{
+    let mut file = Vec::new(alloc);
+    for record in records {
+        file.extend_from_slice(&record.bytes())?;
+    }
+    Ok(file)
+}
+
+// The same in the front of a buffer that has room for it, so that it can't fail.
+pub fn file_into<'a, const N: usize, T: Record<N>>(records: &[T], buffer: &'a mut [u8]) -> &'a [u8]
     requires { N * length records.now ≤ length buffer.old }
     ensures items { result.now ≡ flat_map T.bytes_of records.now }
     ensures len { length result.now ≡ N * length records.now }
@@ -201,8 +221,30 @@ mod tests {
     // A script and a guideline that show each form of record.
     #[test]
     fn bytes_of_records(rt: HostRuntime) -> Result<(), Fail> {
-        let mut buffer = [0; 16];
         let script = file_of(
+            rt.alloc(),
+            &[
+                ScriptRecord::Abstraction(9),
+                ScriptRecord::Constant(0x04030201),
+            ],
+        )?;
+        assert_eq!(rt;
+            script.as_slice(),
+            [4, 0, 0, 0, 9, 0, 0, 0, 3, 0, 0, 0, 1, 2, 3, 4].as_slice()
+        );
+        let guideline = file_of(rt.alloc(), &[GuidelineRecord::Fact(1, 0x100)])?;
+        assert_eq!(rt;
+            guideline.as_slice(),
+            [1, 0, 3, 3, 1, 0, 0, 0, 0, 1, 0, 0, 0, 0, 0, 0].as_slice()
+        );
+        Ok(())
+    }
+
+    // The same two files in a buffer.
+    #[test]
+    fn bytes_in_a_buffer(rt: HostRuntime) -> Result<(), Fail> {
+        let mut buffer = [0; 16];
+        let script = file_into(
             &[
                 ScriptRecord::Abstraction(9),
                 ScriptRecord::Constant(0x04030201),
@@ -213,11 +255,56 @@ mod tests {
             script,
             [4, 0, 0, 0, 9, 0, 0, 0, 3, 0, 0, 0, 1, 2, 3, 4].as_slice()
         );
-        let guideline = file_of(&[GuidelineRecord::Fact(1, 0x100)], &mut buffer);
+        let guideline = file_into(&[GuidelineRecord::Fact(1, 0x100)], &mut buffer);
         assert_eq!(rt;
             guideline,
             [1, 0, 3, 3, 1, 0, 0, 0, 0, 1, 0, 0, 0, 0, 0, 0].as_slice()
         );
+        Ok(())
+    }
+
+    // 0xfffffffe + 1, in one step.
+    #[test]
+    fn plain_run_of_a_sum(rt: HostRuntime) -> Result<(), Fail> {
+        let script = file_of(
+            rt.alloc(),
+            &[
+                ScriptRecord::Sum,
+                ScriptRecord::Constant(0xfffffffe),
+                ScriptRecord::Constant(1),
+            ],
+        )?;
+        let ran = run_plain(&script, 1);
+        assert!(rt; ran.answer.is_ok());
+        assert_eq!(rt;
+            &ran.expression[..9],
+            [3, 0, 0, 0, 255, 255, 255, 255, 0].as_slice()
+        );
+        Ok(())
+    }
+
+    // Function 0 is called with 7 in the first step, at time 0, and that is logged. Zeros follow the one entry.
+    #[test]
+    fn rehearsal_of_a_call(rt: HostRuntime) -> Result<(), Fail> {
+        let script = file_of(
+            rt.alloc(),
+            &[
+                ScriptRecord::Definition(0),
+                ScriptRecord::Variable(0),
+                ScriptRecord::Application,
+                ScriptRecord::Function(0),
+                ScriptRecord::Constant(7),
+            ],
+        )?;
+        let guideline = file_of(rt.alloc(), &[GuidelineRecord::Logged(0)])?;
+        let ran = rehearse(&script, &guideline, 1);
+        assert!(rt; ran.answer.is_ok());
+        assert_eq!(rt;
+            &ran.expression[..9],
+            [3, 0, 0, 0, 7, 0, 0, 0, 0].as_slice()
+        );
+        let log = [0, 0, 0, 0, 0, 0, 0, 0, 3, 0, 0, 0, 7, 0, 0, 0, 0];
+        assert_eq!(rt; &ran.log[..17], log.as_slice());
         Ok(())
     }
 }

@@ -1,7 +1,7 @@
 -- What the call leaves of full buffers is what it answers and leaves.
 use Rattle.std.proofs.Common.{ap}
 use Rattle.rehearsal.specs.Rehearsal.{After}
-use Rattle.samples.proofs.calls.rehearse.Goals as goal
+use Rattle.samples.proofs.calls.rehearse_into.Goals as goal
 
 pub returns-clause-answer : goal.returns-clause-answer
 returns-clause-answer c = ap (λ (a : After). a.run.answer) (rw (c.fill.ensures.expression, c.fill.ensures.history, c.fill.ensures.log) at c.rehearse.ensures.table_after)
