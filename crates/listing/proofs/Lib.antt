@@ -1,4 +1,5 @@
 pub mod Numbers
+pub mod Lines
 pub mod Written
 pub mod Rehearsed
 pub mod Printed

@@ -72,6 +72,6 @@ fn main(rt: HostRuntime) -> IoResult<()> {
         return Ok(());
     };
     let mut text = [0u8; TEXT_BYTES];
-    let n = text::list(&script[..s], &guideline[..g], &mut text);
+    let n = text::list_into(&script[..s], &guideline[..g], &mut text);
     rt.stdout().write_all(&text[..n])
 }
